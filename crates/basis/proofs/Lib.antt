@@ -1,0 +1,2 @@
+-- Laws that more than one crate's proofs cite.
+pub mod Both

@@ -1,0 +1,2 @@
+-- Definitions that every crate's definitions are written in.
+pub mod Pick
