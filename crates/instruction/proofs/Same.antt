@@ -1,0 +1,300 @@
+-- A test that two instructions are the same, and that it is right: for proofs that compute over all words.
+-- Assumes nothing.
+use Prim.Native.Nat.{ℕ}
+use mathlib.Core.Bool.{Bool, true, false, _&&_}
+use mathlib.Core.List.{List, [], _∷_}
+use mathlib.Core.Path.{_≡_, refl, sym, _∙_}
+use lib.Dec.{T, eqb, eqb→eq}
+use lib.ListN.{getD}
+use Rattle.basis.proofs.Both.{both-left, both-right}
+use Rattle.instruction.specs.declared.Instruction.{Instruction}
+use Rattle.instruction.specs.declared.Instruction.the-variants.{ADC, ADD, ADIW, AND, ANDI, ASR, BCLR, BLD, BRBC, BRBS, BREAK, BSET, BST, CALL, CBI, COM, CP, CPC, CPI, CPSE, DEC, EOR, FMUL, FMULS, FMULSU, ICALL, IJMP, IN, INC, JMP, LDX, LDXinc, LDXdec, LDYinc, LDYdec, LDZinc, LDZdec, LDDY, LDDZ, LDI, LDS, LPM, LPMZ, LPMZinc, LSL, LSR, MOV, MOVW, MUL, MULS, MULSU, NEG, NOP, OR, ORI, OUT, POP, PUSH, RCALL, RET, RETI, RJMP, ROR, SBC, SBCI, SBI, SBIC, SBIS, SBIW, SBRC, SBRS, SLEEP, STX, STXdec, STXinc, STYdec, STYinc, STZdec, STZinc, STDY, STDZ, STS, SUB, SUBI, SWAP, WDR, UNDEF}
+
+-- an instruction as three numbers: its place in the enum, and its fields
+abbrev pub code : Instruction → ℕ × ℕ × ℕ
+code (ADC a b) = (0, a, b)
+code (ADD a b) = (1, a, b)
+code (ADIW a b) = (2, a, b)
+code (AND a b) = (3, a, b)
+code (ANDI a b) = (4, a, b)
+code (ASR a) = (5, a, 0)
+code (BCLR a) = (6, a, 0)
+code (BLD a b) = (7, a, b)
+code (BRBC a b) = (8, a, b)
+code (BRBS a b) = (9, a, b)
+code BREAK = (10, 0, 0)
+code (BSET a) = (11, a, 0)
+code (BST a b) = (12, a, b)
+code (CALL a) = (13, a, 0)
+code (CBI a b) = (14, a, b)
+code (COM a) = (15, a, 0)
+code (CP a b) = (16, a, b)
+code (CPC a b) = (17, a, b)
+code (CPI a b) = (18, a, b)
+code (CPSE a b) = (19, a, b)
+code (DEC a) = (20, a, 0)
+code (EOR a b) = (21, a, b)
+code (FMUL a b) = (22, a, b)
+code (FMULS a b) = (23, a, b)
+code (FMULSU a b) = (24, a, b)
+code ICALL = (25, 0, 0)
+code IJMP = (26, 0, 0)
+code (IN a b) = (27, a, b)
+code (INC a) = (28, a, 0)
+code (JMP a) = (29, a, 0)
+code (LDX a) = (30, a, 0)
+code (LDXinc a) = (31, a, 0)
+code (LDXdec a) = (32, a, 0)
+code (LDYinc a) = (33, a, 0)
+code (LDYdec a) = (34, a, 0)
+code (LDZinc a) = (35, a, 0)
+code (LDZdec a) = (36, a, 0)
+code (LDDY a b) = (37, a, b)
+code (LDDZ a b) = (38, a, b)
+code (LDI a b) = (39, a, b)
+code (LDS a b) = (40, a, b)
+code LPM = (41, 0, 0)
+code (LPMZ a) = (42, a, 0)
+code (LPMZinc a) = (43, a, 0)
+code (LSL a) = (44, a, 0)
+code (LSR a) = (45, a, 0)
+code (MOV a b) = (46, a, b)
+code (MOVW a b) = (47, a, b)
+code (MUL a b) = (48, a, b)
+code (MULS a b) = (49, a, b)
+code (MULSU a b) = (50, a, b)
+code (NEG a) = (51, a, 0)
+code NOP = (52, 0, 0)
+code (OR a b) = (53, a, b)
+code (ORI a b) = (54, a, b)
+code (OUT a b) = (55, a, b)
+code (POP a) = (56, a, 0)
+code (PUSH a) = (57, a, 0)
+code (RCALL a) = (58, a, 0)
+code RET = (59, 0, 0)
+code RETI = (60, 0, 0)
+code (RJMP a) = (61, a, 0)
+code (ROR a) = (62, a, 0)
+code (SBC a b) = (63, a, b)
+code (SBCI a b) = (64, a, b)
+code (SBI a b) = (65, a, b)
+code (SBIC a b) = (66, a, b)
+code (SBIS a b) = (67, a, b)
+code (SBIW a b) = (68, a, b)
+code (SBRC a b) = (69, a, b)
+code (SBRS a b) = (70, a, b)
+code SLEEP = (71, 0, 0)
+code (STX a) = (72, a, 0)
+code (STXdec a) = (73, a, 0)
+code (STXinc a) = (74, a, 0)
+code (STYdec a) = (75, a, 0)
+code (STYinc a) = (76, a, 0)
+code (STZdec a) = (77, a, 0)
+code (STZinc a) = (78, a, 0)
+code (STDY a b) = (79, a, b)
+code (STDZ a b) = (80, a, b)
+code (STS a b) = (81, a, b)
+code (SUB a b) = (82, a, b)
+code (SUBI a b) = (83, a, b)
+code (SWAP a) = (84, a, 0)
+code WDR = (85, 0, 0)
+code UNDEF = (86, 0, 0)
+
+back : ℕ → ℕ → ℕ → Instruction
+back t a b =
+    getD (
+    ADC a b ∷
+    ADD a b ∷
+    ADIW a b ∷
+    AND a b ∷
+    ANDI a b ∷
+    ASR a ∷
+    BCLR a ∷
+    BLD a b ∷
+    BRBC a b ∷
+    BRBS a b ∷
+    BREAK ∷
+    BSET a ∷
+    BST a b ∷
+    CALL a ∷
+    CBI a b ∷
+    COM a ∷
+    CP a b ∷
+    CPC a b ∷
+    CPI a b ∷
+    CPSE a b ∷
+    DEC a ∷
+    EOR a b ∷
+    FMUL a b ∷
+    FMULS a b ∷
+    FMULSU a b ∷
+    ICALL ∷
+    IJMP ∷
+    IN a b ∷
+    INC a ∷
+    JMP a ∷
+    LDX a ∷
+    LDXinc a ∷
+    LDXdec a ∷
+    LDYinc a ∷
+    LDYdec a ∷
+    LDZinc a ∷
+    LDZdec a ∷
+    LDDY a b ∷
+    LDDZ a b ∷
+    LDI a b ∷
+    LDS a b ∷
+    LPM ∷
+    LPMZ a ∷
+    LPMZinc a ∷
+    LSL a ∷
+    LSR a ∷
+    MOV a b ∷
+    MOVW a b ∷
+    MUL a b ∷
+    MULS a b ∷
+    MULSU a b ∷
+    NEG a ∷
+    NOP ∷
+    OR a b ∷
+    ORI a b ∷
+    OUT a b ∷
+    POP a ∷
+    PUSH a ∷
+    RCALL a ∷
+    RET ∷
+    RETI ∷
+    RJMP a ∷
+    ROR a ∷
+    SBC a b ∷
+    SBCI a b ∷
+    SBI a b ∷
+    SBIC a b ∷
+    SBIS a b ∷
+    SBIW a b ∷
+    SBRC a b ∷
+    SBRS a b ∷
+    SLEEP ∷
+    STX a ∷
+    STXdec a ∷
+    STXinc a ∷
+    STYdec a ∷
+    STYinc a ∷
+    STZdec a ∷
+    STZinc a ∷
+    STDY a b ∷
+    STDZ a b ∷
+    STS a b ∷
+    SUB a b ∷
+    SUBI a b ∷
+    SWAP a ∷
+    WDR ∷
+    UNDEF ∷ [])
+    t UNDEF
+
+back-code : (i : Instruction) → back (code i .0) (code i .1) (code i .2) ≡ i
+unfolding back
+back-code (ADC a b) = refl
+back-code (ADD a b) = refl
+back-code (ADIW a b) = refl
+back-code (AND a b) = refl
+back-code (ANDI a b) = refl
+back-code (ASR a) = refl
+back-code (BCLR a) = refl
+back-code (BLD a b) = refl
+back-code (BRBC a b) = refl
+back-code (BRBS a b) = refl
+back-code BREAK = refl
+back-code (BSET a) = refl
+back-code (BST a b) = refl
+back-code (CALL a) = refl
+back-code (CBI a b) = refl
+back-code (COM a) = refl
+back-code (CP a b) = refl
+back-code (CPC a b) = refl
+back-code (CPI a b) = refl
+back-code (CPSE a b) = refl
+back-code (DEC a) = refl
+back-code (EOR a b) = refl
+back-code (FMUL a b) = refl
+back-code (FMULS a b) = refl
+back-code (FMULSU a b) = refl
+back-code ICALL = refl
+back-code IJMP = refl
+back-code (IN a b) = refl
+back-code (INC a) = refl
+back-code (JMP a) = refl
+back-code (LDX a) = refl
+back-code (LDXinc a) = refl
+back-code (LDXdec a) = refl
+back-code (LDYinc a) = refl
+back-code (LDYdec a) = refl
+back-code (LDZinc a) = refl
+back-code (LDZdec a) = refl
+back-code (LDDY a b) = refl
+back-code (LDDZ a b) = refl
+back-code (LDI a b) = refl
+back-code (LDS a b) = refl
+back-code LPM = refl
+back-code (LPMZ a) = refl
+back-code (LPMZinc a) = refl
+back-code (LSL a) = refl
+back-code (LSR a) = refl
+back-code (MOV a b) = refl
+back-code (MOVW a b) = refl
+back-code (MUL a b) = refl
+back-code (MULS a b) = refl
+back-code (MULSU a b) = refl
+back-code (NEG a) = refl
+back-code NOP = refl
+back-code (OR a b) = refl
+back-code (ORI a b) = refl
+back-code (OUT a b) = refl
+back-code (POP a) = refl
+back-code (PUSH a) = refl
+back-code (RCALL a) = refl
+back-code RET = refl
+back-code RETI = refl
+back-code (RJMP a) = refl
+back-code (ROR a) = refl
+back-code (SBC a b) = refl
+back-code (SBCI a b) = refl
+back-code (SBI a b) = refl
+back-code (SBIC a b) = refl
+back-code (SBIS a b) = refl
+back-code (SBIW a b) = refl
+back-code (SBRC a b) = refl
+back-code (SBRS a b) = refl
+back-code SLEEP = refl
+back-code (STX a) = refl
+back-code (STXdec a) = refl
+back-code (STXinc a) = refl
+back-code (STYdec a) = refl
+back-code (STYinc a) = refl
+back-code (STZdec a) = refl
+back-code (STZinc a) = refl
+back-code (STDY a b) = refl
+back-code (STDZ a b) = refl
+back-code (STS a b) = refl
+back-code (SUB a b) = refl
+back-code (SUBI a b) = refl
+back-code (SWAP a) = refl
+back-code WDR = refl
+back-code UNDEF = refl
+
+abbrev pub equal3 : ℕ × ℕ × ℕ → ℕ × ℕ × ℕ → Bool
+equal3 x y = eqb (x .0) (y .0) && (eqb (x .1) (y .1) && eqb (x .2) (y .2))
+
+abbrev pub same : Instruction → Instruction → Bool
+same i j = equal3 (code i) (code j)
+
+backs : (x y : ℕ × ℕ × ℕ) → T (equal3 x y) → back (x .0) (x .1) (x .2) ≡ back (y .0) (y .1) (y .2)
+backs x y t =
+    let a = eqb (x .0) (y .0) in
+    let b = eqb (x .1) (y .1) in
+    let c = eqb (x .2) (y .2) in
+    let u = both-right a (b && c) t in
+    cc (eqb→eq (x .0) (y .0) (both-left a (b && c) t), eqb→eq (x .1) (y .1) (both-left b c u), eqb→eq (x .2) (y .2) (both-right b c u))
+
+pub same→eq : (i j : Instruction) → T (same i j) → i ≡ j
+same→eq i j t = sym (back-code i) ∙ backs (code i) (code j) t ∙ back-code j
