@@ -1,0 +1,2 @@
+-- `Pattern`: what a bit pattern's text means.
+pub mod Pattern
