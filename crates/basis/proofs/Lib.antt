@@ -1,2 +1,6 @@
 -- Laws that more than one crate's proofs cite.
 pub mod Both
+pub mod Every
+pub mod Bits
+pub mod Words
+pub mod Products

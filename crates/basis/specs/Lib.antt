@@ -1,2 +1,3 @@
 -- Definitions that every crate's definitions are written in.
 pub mod Pick
+pub mod Bit

@@ -10,7 +10,7 @@ use native.Mathlib.Nat.{div-div-eq-div-mul, pow-suc, div-one}
 use lib.Dec.{T, eqb}
 use Rattle.basis.proofs.Both.{both-left, both-right}
 use Rattle.instruction.proofs.Laws.{second-word-alone}
-use Rattle.instruction.proofs.Same.{same, same→eq}
+use Rattle.instruction.proofs.Tests.{same, same→eq}
 use Rattle.instruction.specs.Decode.{decodeOf}
 use Rattle.instruction.specs.Fields.{withSecond}
 use Rattle.instruction.specs.declared.Instruction.{Instruction}

@@ -5,7 +5,7 @@ use mathlib.Core.Bool.{Bool, true, false, _&&_}
 use mathlib.Core.List.{List, [], _∷_}
 use lib.Dec.{T, eqb}
 use Rattle.basis.proofs.Both.{both-join}
-use Rattle.instruction.proofs.Same.{same}
+use Rattle.instruction.proofs.Tests.{same}
 use Rattle.instruction.specs.Decode.{decodeOf, nopToAddOf, mulsuToFmulsuOf, cpseToAdcOf, andToMovOf, immediateOf, displacedOf, loadOf, storeOf, oneRegisterOf, controlOf, indirectOf, wordImmediateOf, portBitOf, portOf, relativeOf, branchOrBitOf, registerBitOf}
 use Rattle.instruction.specs.declared.Instruction.{Instruction}
 use Rattle.instruction.specs.declared.Instruction.the-variants.{UNDEF}
