@@ -1,0 +1,23 @@
+-- `minus` is `minusOf`: a borrow is at most 1, so nothing overflows.
+-- Assumes nothing.
+use mathlib.Core.Path.{refl}
+use native.Mathlib.Omega.{arith}
+use borrow.Author.Needs.{needs}
+use Rattle.basis.proofs.Bits.{one-le}
+use Rattle.alu.specs.Alu.{minusOf}
+use Rattle.alu.proofs.minus.Statement.{statement}
+use Rattle.alu.proofs.minus.Tie as tie
+
+pub minus-spec : {M : Type 1} → statement M
+unfolding minusOf
+minus-spec =
+    tie.close
+    (tie.spec
+    (λ c. search needs)
+    (λ c. omega (arith, one-le (c .args .c)))
+    (λ c. search needs)
+    (λ c. omega (arith, one-le (c .args .c)))
+    (λ c. search needs)
+    (λ c. search needs)
+    (λ c. omega (arith, one-le (c .args .c)))
+    (λ c. refl))

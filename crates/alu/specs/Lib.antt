@@ -1,0 +1,2 @@
+-- `Alu`: 01's 'Arithmetic and flags', as far as it speaks of operands and results alone.
+pub mod Alu

@@ -1,0 +1,2 @@
+-- `Memory`: 01's flat memories.
+pub mod Memory
