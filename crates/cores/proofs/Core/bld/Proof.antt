@@ -1,0 +1,15 @@
+-- `bld`: what its calls ensure, put together.
+-- Assumes nothing.
+use borrow.Author.Needs.{needs}
+use Rattle.cores.proofs.Core.bld.Statement.{statement}
+use Rattle.cores.proofs.Core.bld.Tie as tie
+
+pub bld-spec : {M : Type 1} → statement M
+bld-spec =
+    tie.close
+    (tie.spec
+    (λ c κs. search needs)
+    (λ c κs. search needs)
+    (λ c κs. search needs)
+    (λ c κs. search needs)
+    (λ c. cc))

@@ -1,0 +1,17 @@
+-- `fmulsu`: what its calls ensure, put together.
+-- Assumes nothing.
+use borrow.Author.Needs.{needs}
+use Rattle.cores.proofs.Core.fmulsu.Statement.{statement}
+use Rattle.cores.proofs.Core.fmulsu.Tie as tie
+
+pub fmulsu-spec : {M : Type 1} → statement M
+fmulsu-spec =
+    tie.close
+    (tie.spec
+    (λ c κs. search needs)
+    (λ c κs. search needs)
+    (λ c κs. search needs)
+    (λ c. search needs)
+    (λ c κs. search needs)
+    (λ c κs. search needs)
+    (λ c. cc))

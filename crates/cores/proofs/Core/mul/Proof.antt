@@ -1,0 +1,17 @@
+-- `mul`: what its calls ensure, put together.
+-- Assumes nothing.
+use borrow.Author.Needs.{needs}
+use Rattle.cores.proofs.Core.mul.Statement.{statement}
+use Rattle.cores.proofs.Core.mul.Tie as tie
+
+pub mul-spec : {M : Type 1} → statement M
+mul-spec =
+    tie.close
+    (tie.spec
+    (λ c κs. search needs)
+    (λ c κs. search needs)
+    (λ c. search needs)
+    (λ c. search needs)
+    (λ c κs. search needs)
+    (λ c κs. search needs)
+    (λ c. cc))

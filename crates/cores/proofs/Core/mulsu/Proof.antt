@@ -1,0 +1,17 @@
+-- `mulsu`: what its calls ensure, put together.
+-- Assumes nothing.
+use borrow.Author.Needs.{needs}
+use Rattle.cores.proofs.Core.mulsu.Statement.{statement}
+use Rattle.cores.proofs.Core.mulsu.Tie as tie
+
+pub mulsu-spec : {M : Type 1} → statement M
+mulsu-spec =
+    tie.close
+    (tie.spec
+    (λ c κs. search needs)
+    (λ c κs. search needs)
+    (λ c κs. search needs)
+    (λ c. search needs)
+    (λ c κs. search needs)
+    (λ c κs. search needs)
+    (λ c. cc))

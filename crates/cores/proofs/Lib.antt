@@ -1,0 +1,2 @@
+-- `Space`: an address that is neither SREG nor a byte of SP.
+pub mod Space

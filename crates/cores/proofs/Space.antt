@@ -1,0 +1,28 @@
+-- Data space at an address that is neither SREG nor a byte of SP: the byte of data itself.
+-- Assumes nothing.
+use mathlib.Core.Path.{_≡_}
+use mathlib.Core.List.{List}
+use Prim.Native.Nat.{ℕ}
+use lib.Dec.{ltb}
+use lib.ListN.{getD, set}
+use borrow.Author.Tests.{ne-eqb}
+use Rattle.cores.specs.declared.Core.{Core}
+use Rattle.cores.specs.State.{out}
+use Rattle.cores.specs.Transfer.{reachOf, dataOf, setDataOf}
+
+-- as a `match` on 0x3F, 0x3E and 0x3D has it in its last arm
+abbrev pub Elsewhere : ℕ → Type 0
+Elsewhere at = ((Unit {0} × (at ≡ 0x3F → ⊥)) × (at ≡ 0x3E → ⊥)) × (at ≡ 0x3D → ⊥)
+
+module _ (at : ℕ) (h : Elsewhere at) where
+  pub reach-elsewhere : (n : ℕ) → reachOf at n ≡ ltb at n
+  unfolding reachOf
+  reach-elsewhere n = rw (ne-eqb at 0x3F (h .0 .0 .1), ne-eqb at 0x3E (h .0 .1), ne-eqb at 0x3D (h .1))
+
+  pub data-elsewhere : (k : Core) (m : List ℕ) → dataOf k at m ≡ getD m at 0
+  unfolding dataOf
+  data-elsewhere k m = rw (ne-eqb at 0x3F (h .0 .0 .1), ne-eqb at 0x3E (h .0 .1), ne-eqb at 0x3D (h .1))
+
+  pub set-data-elsewhere : (k : Core) (v : ℕ) (m : List ℕ) → setDataOf k at v m ≡ out k (set m at v)
+  unfolding setDataOf
+  set-data-elsewhere k v m = rw (ne-eqb at 0x3F (h .0 .0 .1), ne-eqb at 0x3E (h .0 .1), ne-eqb at 0x3D (h .1))
