@@ -1,0 +1,33 @@
+// One tick.
+use cores::Core;
+
+pub enum Offer {
+    Vector(u16),
+    Nothing,
+}
+
+// What an executed instruction answers.
+pub enum Done {
+    Ran,
+    Sleep,
+    Watchdog,
+    Undefined,
+    Break,
+}
+
+pub enum Answer {
+    Refused(u8),
+    Waited,
+    Entered,
+    Ran,
+    Sleep,
+    Watchdog,
+    Undefined,
+    Break,
+    End,
+}
+
+pub struct Ticked {
+    pub answer: Answer,
+    pub core: Core,
+}
