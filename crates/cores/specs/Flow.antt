@@ -23,6 +23,10 @@ brbxOf k s o on = pick (Bool·beq (flag k s) on) (withBusy (withPc k (up (k .pc)
 abbrev pub wordPushed : Core → ℕ → List ℕ → Out
 wordPushed k v m = out (withSp k (down (k .sp) 2)) (set (set m (k .sp) (v % 256)) (down (k .sp) 1) (v / 256))
 
+-- LDS and STS: past the second word
+abbrev pub overSecond : Core → Core
+overSecond k = withPc k (up (k .pc) 1)
+
 -- a return address pushed, and a jump to t with n waits
 abbrev pub called : Core → ℕ → ℕ → ℕ → List ℕ → Out
 called k back t n m = let o = wordPushed (withBusy k n) back m in out (withPc (o .core) t) (o .bytes)

@@ -18,6 +18,7 @@ ghost use Rattle.cores.specs.Flow.{
   cpseOf,
   icallOf,
   jumped,
+  overSecond,
   ijmpOf,
   jmpOf,
   rcallOf,
@@ -47,6 +48,14 @@ impl Core {
         let below = std::num::wrapping_sub_u16(self.sp, 1);
         memory::write(data, below as usize, (value / 256) as u8);
         self.sp = std::num::wrapping_sub_u16(self.sp, 2);
+        self
+    }
+
+    // PC past a second word.
+    pub fn over_second(mut self) -> Core
+        ensures { λ j. ⌜ j ≡ overSecond self ⌝ }
+    {
+        self.pc = std::num::wrapping_add_u16(self.pc, 1);
         self
     }
 

@@ -23,6 +23,8 @@ mod flow;
 pub mod pointer;
 mod transfer;
 
+pub use transfer::in_data_space;
+
 pub struct Core {
     pub regs: [u8; 32],
     pub sreg: u8,

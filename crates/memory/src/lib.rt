@@ -1,7 +1,7 @@
 // Flat memories: a lent slice of bytes, of any length. Outside it a byte reads 0 and nothing is written; who must refuse asks `has` first.
 ghost use mathlib.Core.Path.{_≡_};
 ghost use lib.ListN.{getD, set};
-ghost use Rattle.memory.specs.Memory.{hasOf, wordOf, programWordOf, bitSetOf};
+ghost use Rattle.memory.specs.Memory.{hasOf, wordOf, programWordOf, hasWordOf, bitSetOf};
 
 // Whether the byte is in the slice.
 pub fn has(bytes: &[u8], address: usize) -> bool
@@ -46,6 +46,13 @@ pub fn get_progmem(program: &[u8], pc: u32) -> u16
     ensures { λ r. ⌜ r ≡ programWordOf (now (program .entry)) pc ⌝ }
 {
     read_word(program, pc as usize * 2)
+}
+
+// Whether the word at a PC is wholly in the program.
+pub fn has_word(program: &[u8], pc: u32) -> bool
+    ensures { λ r. ⌜ r ≡ hasWordOf (now (program .entry)) pc ⌝ }
+{
+    has(program, pc as usize * 2 + 1)
 }
 
 pub fn set_bit(bytes: &mut [u8], address: usize, bit: u8, state: bool)

@@ -1,4 +1,2 @@
--- 01's tick. `Needs`: refusals 1 to 4. `Execute`: what each instruction does. `Tick`: the five steps and the answers' numbers.
-pub mod Needs
-pub mod Execute
+-- `Tick`: 01's five steps, and the numbers of the answers.
 pub mod Tick

@@ -11,10 +11,10 @@ use Rattle.memory.specs.Memory.{programWordOf}
 use Rattle.cores.specs.declared.Core.{Core}
 use Rattle.cores.specs.State.{Out, out, withPc, withBusy, withInhibit, withService, flag}
 use Rattle.cores.specs.Flow.{wordPushed}
-use Rattle.tick.specs.Needs.{Needs, refusal, pushNeeds, needs, fetched, withFetch}
-use Rattle.tick.specs.Execute.{Executed, executed}
-use Rattle.tick.specs.declared.Done.{Done}
-use Rattle.tick.specs.declared.Done.the-variants as done
+use Rattle.execute.specs.Needs.{Needs, refusal, pushNeeds, needs, fetched, withFetch}
+use Rattle.execute.specs.Execute.{Executed, executed}
+use Rattle.execute.specs.declared.Done.{Done}
+use Rattle.execute.specs.declared.Done.the-variants as done
 use Rattle.tick.specs.declared.Offer.{Offer}
 use Rattle.tick.specs.declared.Offer.the-variants.{Vector, Nothing}
 use Rattle.tick.specs.declared.Answer.{Answer}

@@ -6,15 +6,6 @@ pub enum Offer {
     Nothing,
 }
 
-// What an executed instruction answers.
-pub enum Done {
-    Ran,
-    Sleep,
-    Watchdog,
-    Undefined,
-    Break,
-}
-
 pub enum Answer {
     Refused(u8),
     Waited,

@@ -1,25 +1,36 @@
 -- What each instruction does, of a core whose PC is behind its first word: the handler that 01 gives it, and the answer.
+use mathlib.Core.Path.{_≡_}
 use mathlib.Core.Bool.{Bool, true, false}
 use mathlib.Core.List.{List}
 use Prim.Native.Nat.{ℕ}
-use Rattle.basis.specs.Bit.{up}
 use Rattle.instruction.specs.declared.Instruction.{Instruction}
 use Rattle.instruction.specs.declared.Instruction.the-variants.{ADC, ADD, ADIW, AND, ANDI, ASR, BCLR, BLD, BRBC, BRBS, BREAK, BSET, BST, CALL, CBI, COM, CP, CPC, CPI, CPSE, DEC, EOR, FMUL, FMULS, FMULSU, ICALL, IJMP, IN, INC, JMP, LDX, LDXinc, LDXdec, LDYinc, LDYdec, LDZinc, LDZdec, LDDY, LDDZ, LDI, LDS, LPM, LPMZ, LPMZinc, LSL, LSR, MOV, MOVW, MUL, MULS, MULSU, NEG, NOP, OR, ORI, OUT, POP, PUSH, RCALL, RET, RETI, RJMP, ROR, SBC, SBCI, SBI, SBIC, SBIS, SBIW, SBRC, SBRS, SLEEP, STX, STXdec, STXinc, STYdec, STYinc, STZdec, STZinc, STDY, STDZ, STS, SUB, SUBI, SWAP, WDR, UNDEF}
 use Rattle.memory.specs.Memory.{bitSetOf}
 use Rattle.cores.specs.declared.Core.{Core}
-use Rattle.cores.specs.State.{Out, out, reg, word, withReg, withWord, withPc}
+use Rattle.cores.specs.State.{Out, out, reg, word, withReg, withWord}
 use Rattle.cores.specs.Arithmetic.{adcOf, addOf, adiwOf, andOf, comOf, decOf, eorOf, fmulOf, fmulsOf, fmulsuOf, incOf, mulOf, mulsOf, mulsuOf, negOf, orOf, sbcOf, sbiwOf, subOf}
-use Rattle.cores.specs.Flow.{brbxOf, callOf, cpOf, cpcOf, cpseOf, icallOf, ijmpOf, jmpOf, rcallOf, retOf, retiOf, rjmpOf, sbixOf, sbrxOf}
+use Rattle.cores.specs.Flow.{overSecond, brbxOf, callOf, cpOf, cpcOf, cpseOf, icallOf, ijmpOf, jmpOf, rcallOf, retOf, retiOf, rjmpOf, sbixOf, sbrxOf}
 use Rattle.cores.specs.Bits.{asrOf, flagMadeOf, bldOf, bstOf, lsrOf, rorOf, swapOf}
 use Rattle.cores.specs.Transfer.{setDataOf, inOf, ldOf, stOf, ldsOf, lpmOf, popOf, pushOf, stsOf}
-use Rattle.tick.specs.declared.Done.{Done}
-use Rattle.tick.specs.declared.Done.the-variants.{Ran, Sleep, Watchdog, Undefined, Break}
+use Rattle.execute.specs.declared.Outcome.{Outcome}
+use Rattle.execute.specs.declared.Done.{Done}
+use Rattle.execute.specs.declared.Done.the-variants.{Ran, Sleep, Watchdog, Undefined, Break}
 
 -- what an executed instruction gives: no refusal is among it
 pub record Executed : Type 0 where
   pub done : Done
   pub core : Core
   pub bytes : List ℕ
+
+-- what the code hands back, and the lent data, are those
+pub record Executes (e : Executed) (r : Outcome) (m : List ℕ) : Type 0 where
+  pub done : r .done ≡ e .done
+  pub core : r .core ≡ e .core
+  pub bytes : m ≡ e .bytes
+
+-- its core and its bytes alone
+abbrev pub effectOf : Executed → Out
+effectOf e = out (e .core) (e .bytes)
 
 abbrev pub did : Done → Core → List ℕ → Executed
 did a k m = record { done = a; core = k; bytes = m }
@@ -29,10 +40,6 @@ ran k m = did Ran k m
 
 abbrev pub ranOut : Out → Executed
 ranOut o = did Ran (o .core) (o .bytes)
-
--- past the second word
-abbrev pub overSecond : Core → Core
-overSecond k = withPc k (up (k .pc) 1)
 
 -- program p, data m. "19 20 21 sleep, watchdog, undefined: executed as a no-op"; LSL is never decoded
 module _ (decode : ℕ → ℕ → Instruction) where

@@ -37,12 +37,15 @@ abbrev pub programByte : Bool → Needs
 programByte b = record { program = b; room = true; stack = true; bytes = true }
 
 -- "CALL, LDS, STS at PC 65,534": PC is behind the opcode, so at 65,535
-abbrev pub secondFits : Core → Bool
-secondFits k = ltb (k .pc) 65535
+abbrev pub secondNeeds : Core → ℕ → List ℕ → Needs
+secondNeeds k at m = record { program = true; room = ltb (k .pc) 65535; stack = true; bytes = reachOf at (length m) }
 
 -- "entry, CALL, RCALL, ICALL with SP below 2": bytes SP and SP-1
 abbrev pub pushNeeds : Core → List ℕ → Needs
 pushNeeds k m = record { program = true; room = true; stack = leb 2 (k .sp); bytes = hasOf m (k .sp) }
+
+abbrev pub callNeeds : Core → List ℕ → Needs
+callNeeds k m = record { program = true; room = ltb (k .pc) 65535; stack = leb 2 (k .sp); bytes = hasOf m (k .sp) }
 
 -- "RET, RETI with SP above 65,533": bytes SP+1 and SP+2
 abbrev pub popNeeds : Core → List ℕ → Needs
@@ -85,7 +88,7 @@ module _ (decode : ℕ → ℕ → Instruction) where
   needs k BREAK p m = nothing
   needs k (BSET s) p m = nothing
   needs k (BST d b) p m = nothing
-  needs k (CALL t) p m = record { program = true; room = secondFits k; stack = leb 2 (k .sp); bytes = hasOf m (k .sp) }
+  needs k (CALL t) p m = callNeeds k m
   needs k (CBI A b) p m = byte (hasOf m A)
   needs k (COM d) p m = nothing
   needs k (CP d r) p m = nothing
@@ -112,7 +115,7 @@ module _ (decode : ℕ → ℕ → Instruction) where
   needs k (LDDY d q) p m = atPointer k 28 q false m
   needs k (LDDZ d q) p m = atPointer k 30 q false m
   needs k (LDI d K) p m = nothing
-  needs k (LDS d at) p m = record { program = true; room = secondFits k; stack = true; bytes = reachOf at (length m) }
+  needs k (LDS d at) p m = secondNeeds k at m
   needs k LPM p m = programByte (hasOf p (word k 30))
   needs k (LPMZ d) p m = programByte (hasOf p (word k 30))
   needs k (LPMZinc d) p m = programByte (hasOf p (word k 30))
@@ -153,7 +156,7 @@ module _ (decode : ℕ → ℕ → Instruction) where
   needs k (STZinc r) p m = atPointer k 30 0 false m
   needs k (STDY q r) p m = atPointer k 28 q false m
   needs k (STDZ q r) p m = atPointer k 30 q false m
-  needs k (STS at r) p m = record { program = true; room = secondFits k; stack = true; bytes = reachOf at (length m) }
+  needs k (STS at r) p m = secondNeeds k at m
   needs k (SUB d r) p m = nothing
   needs k (SUBI d K) p m = nothing
   needs k (SWAP d) p m = nothing

@@ -1,0 +1,2 @@
+-- `Rest`: the instructions of a last arm.
+pub mod Rest

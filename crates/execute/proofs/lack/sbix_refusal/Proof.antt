@@ -1,0 +1,15 @@
+-- `sbix_refusal`: what its calls ensure, put together.
+-- Assumes nothing.
+use borrow.Author.Needs.{needs}
+use Rattle.execute.proofs.lack.sbix_refusal.Statement.{statement}
+use Rattle.execute.proofs.lack.sbix_refusal.Tie as tie
+
+pub sbix-refusal-spec : {M : Type 1} → statement M
+sbix-refusal-spec =
+    tie.close
+    (tie.spec
+    (λ c κs. search needs)
+    (λ c κs. search needs)
+    (λ c κs. search needs)
+    (λ c κs. search needs)
+    (λ c. cc))

@@ -1,0 +1,13 @@
+-- `space_refusal`: what its calls ensure, put together.
+-- Assumes nothing.
+use borrow.Author.Needs.{needs}
+use Rattle.execute.proofs.lack.space_refusal.Statement.{statement}
+use Rattle.execute.proofs.lack.space_refusal.Tie as tie
+
+pub space-refusal-spec : {M : Type 1} → statement M
+space-refusal-spec =
+    tie.close
+    (tie.spec
+    (λ c κs. search needs)
+    (λ c κs. search needs)
+    (λ c. cc))
