@@ -56,6 +56,10 @@ pub record Ticks (t : Tick) (r : Ticked) (m : List ℕ) : Type 0 where
   pub core : r .core ≡ t .core
   pub bytes : m ≡ t .bytes
 
+-- the form in place hands the answer back, and leaves the core behind its reference
+abbrev pub inPlace : Answer → Core → Ticked
+inPlace a k = record { answer = a; core = k }
+
 -- ---- the steps
 -- "A refused call changes no core, no byte of data": a step that needs n, from core k and data m
 abbrev pub decided : Needs → Core → List ℕ → Tick → Tick

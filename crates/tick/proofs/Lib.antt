@@ -1,0 +1,2 @@
+-- `Decided`: a step that is granted or denied.
+pub mod Decided
