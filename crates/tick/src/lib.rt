@@ -60,6 +60,16 @@ fn answer_of(done: Done) -> Answer
     }
 }
 
+// Refused: the very core that came in.
+fn refused(n: u8, core: Core) -> Ticked
+    ensures { λ r. ⌜ r ≡ inPlace (Answer.Refused n) core ⌝ }
+{
+    Ticked {
+        answer: Answer::Refused(n),
+        core,
+    }
+}
+
 // The offer, where an interrupt is to be entered now.
 fn due(core: Core, offer: Offer) -> Offer
     ensures { λ o. ⌜ o ≡ due core offer ⌝ }
@@ -81,10 +91,7 @@ fn enter(core: Core, vector: u16, data: &mut [u8]) -> Ticked
 {
     let lack = execute::push_refusal(core, data);
     if lack != 0 {
-        return Ticked {
-            answer: Answer::Refused(lack),
-            core,
-        };
+        return refused(lack, core);
     }
     let mut next = core.push_word(core.pc, data);
     next.pc = vector;
@@ -114,19 +121,13 @@ fn step(core: Core, next: Core, program: &[u8], data: &mut [u8]) -> Ticked
     let prefetch = memory::get_progmem(program, pc as u32 + 1);
     let op = Instruction::decode(opcode, prefetch);
     if !has_words(op, program, pc) {
-        return Ticked {
-            answer: Answer::Refused(1),
-            core,
-        };
+        return refused(1, core);
     }
     let mut behind = next;
     behind.pc = pc + 1;
     let lack = execute::refusal(behind, op, program, data);
     if lack != 0 {
-        return Ticked {
-            answer: Answer::Refused(lack),
-            core,
-        };
+        return refused(lack, core);
     }
     let outcome = execute::execute(behind, op, program, data);
     let done = outcome.done;
@@ -143,10 +144,7 @@ pub fn tick(core: Core, program: &[u8], data: &mut [u8], offer: Offer) -> Ticked
     let busy = core.busy;
     let mut next = core;
     if busy > 4 {
-        return Ticked {
-            answer: Answer::Refused(5),
-            core,
-        };
+        return refused(5, core);
     }
     // Wait for multi-cycle instructions to complete
     if busy > 0 {

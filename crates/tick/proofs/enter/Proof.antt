@@ -16,10 +16,11 @@ enter-spec =
     tie.close
     (tie.spec
     (λ c κs. search needs)
+    (λ c κs. search needs)
     (λ c. search needs)
-    (λ c. let a = c .before .before .before .before .args in
+    (λ c. let a = c .before .before .before .before .before .args in
     let o = entry (a .core) (a .vector) (a .«data» .now) in
-    rw (denied (pushNeeds (a .core) (a .«data» .now)) (a .core) (a .«data» .now) (gives Entered (o .core) (o .bytes)) (c .before .push-refusal .result) (c .before .push-refusal .ensures) (c .if1 .taken)) (record { answer = refl; core = refl; bytes = refl }))
+    rw (c .refused .ensures, denied (pushNeeds (a .core) (a .«data» .now)) (a .core) (a .«data» .now) (gives Entered (o .core) (o .bytes)) (c .before .before .push-refusal .result) (c .before .before .push-refusal .ensures) (c .before .if1 .taken)) (record { answer = refl; core = refl; bytes = refl }))
     (λ c κs. search needs)
     (λ c. search needs)
     (λ c. let a = c .before .before .before .before .before .before .before .before .args in

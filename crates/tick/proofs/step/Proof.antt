@@ -23,17 +23,19 @@ step-spec =
     (λ c κs. search needs)
     (λ c κs. search needs)
     (λ c κs. search needs)
-    (λ c. let a = c .before .before .before .before .before .before .before .args in
-    let op : c .before .before .decode .result ≡ opAt (a .program .now) (a .next .pc) = rw (c .before .before .decode .ensures, c .before .before .before .get-progmem2 .ensures, c .before .before .before .before .get-progmem .ensures) in
-    let has : fetched (a .program .now) (a .next .pc) (opAt (a .program .now) (a .next .pc)) ≡ false = sym (rw op at (c .before .has-words .ensures)) ∙ not-true (c .before .has-words .result) (c .if1 .taken) in
-    rw (step-unfetched (a .core) (a .next) (a .program .now) (a .«data» .now) has) (record { answer = refl; core = refl; bytes = refl }))
+    (λ c κs. search needs)
+    (λ c. let a = c .before .before .before .before .before .before .before .before .args in
+    let op : c .before .before .before .decode .result ≡ opAt (a .program .now) (a .next .pc) = rw (c .before .before .before .decode .ensures, c .before .before .before .before .get-progmem2 .ensures, c .before .before .before .before .before .get-progmem .ensures) in
+    let has : fetched (a .program .now) (a .next .pc) (opAt (a .program .now) (a .next .pc)) ≡ false = sym (rw op at (c .before .before .has-words .ensures)) ∙ not-true (c .before .before .has-words .result) (c .before .if1 .taken) in
+    rw (c .refused .ensures, step-unfetched (a .core) (a .next) (a .program .now) (a .«data» .now) has) (record { answer = refl; core = refl; bytes = refl }))
     (λ c. search needs)
     (λ c κs. search needs)
+    (λ c κs. search needs)
     (λ c. search needs)
-    (λ c. let a = c .before .before .before .before .before .before .before .before .before .before .args in
-    let op : c .before .before .before .before .before .decode .result ≡ opAt (a .program .now) (a .next .pc) = rw (c .before .before .before .before .before .decode .ensures, c .before .before .before .before .before .before .get-progmem2 .ensures, c .before .before .before .before .before .before .before .get-progmem .ensures) in
-    let has : fetched (a .program .now) (a .next .pc) (opAt (a .program .now) (a .next .pc)) ≡ true = sym (rw op at (c .before .before .before .before .has-words .ensures)) ∙ not-false (c .before .before .before .before .has-words .result) (c .before .before .before .if1 .left) in
-    rw (step-denied (a .core) (a .next) (a .program .now) (a .«data» .now) has (c .before .refusal .result) (rw op at (c .before .refusal .ensures)) (c .if2 .taken)) (record { answer = refl; core = refl; bytes = refl }))
+    (λ c. let a = c .before .before .before .before .before .before .before .before .before .before .before .args in
+    let op : c .before .before .before .before .before .before .decode .result ≡ opAt (a .program .now) (a .next .pc) = rw (c .before .before .before .before .before .before .decode .ensures, c .before .before .before .before .before .before .before .get-progmem2 .ensures, c .before .before .before .before .before .before .before .before .get-progmem .ensures) in
+    let has : fetched (a .program .now) (a .next .pc) (opAt (a .program .now) (a .next .pc)) ≡ true = sym (rw op at (c .before .before .before .before .before .has-words .ensures)) ∙ not-false (c .before .before .before .before .before .has-words .result) (c .before .before .before .before .if1 .left) in
+    rw (c .refused2 .ensures, step-denied (a .core) (a .next) (a .program .now) (a .«data» .now) has (c .before .before .refusal .result) (rw op at (c .before .before .refusal .ensures)) (c .before .if2 .taken)) (record { answer = refl; core = refl; bytes = refl }))
     (λ c κs. search needs)
     (λ c κs. search needs)
     (λ c. search needs)

@@ -13,7 +13,8 @@ unfolding ticked entersOrSteps withBusy withInhibit
 tick-spec =
     tie.close
     (tie.spec
-    (λ c. simp (lt-ltb _ _ (c .if1 .taken)) (record { answer = refl; core = refl; bytes = refl }))
+    (λ c κs. search needs)
+    (λ c. simp (c .refused .ensures, lt-ltb _ _ (c .before .if1 .taken)) (record { answer = refl; core = refl; bytes = refl }))
     (λ c. search needs)
     (λ c. simp (le-ltb _ _ (c .before .if1 .left), lt-ltb _ _ (c .if2 .taken)) (record { answer = refl; core = refl; bytes = refl }))
     (λ c κs. search needs)
