@@ -1,0 +1,95 @@
+-- mul, muls, mulsu, fmul, fmuls and fmulsu of the Rust are the port's. No product overflows.
+-- Assumes nothing.
+use mathlib.Core.Path.{_≡_}
+use Prim.Native.Nat.{ℕ, _*_, _%_, _<_}
+use native.Mathlib.Omega.{arith}
+use lib.IntN.{pos, _*ℤ_}
+use borrow.Author.Tests.{lt-ltb}
+use Rattle.basis.proofs.Products.{product-lt}
+use Rattle.alu.specs.Alu.{signedOf, productOf}
+use Rattle.cores.specs.State.{Sound, reg, withReg, withBusy}
+use Rattle.cores.specs.Arithmetic.{fmulOf, fmulsOf, fmulsuOf, mulOf, mulsOf, mulsuOf}
+use Rattle.source.specs.Monad.{Self}
+use Rattle.source.specs.Integers.{u8-as-i8}
+use Rattle.source.specs.Arithmetic.{fmul, fmuls, fmulsu, mul, muls, mulsu}
+use Rattle.source.proofs.Steps.{leaves}
+use Rattle.source.proofs.Registers.{get-ok, set-word-ok, cz-ok}
+use Rattle.source.proofs.Sums.{bit15}
+use Rattle.source.proofs.Signed.{value-ss, value-su, range-ss, range-su, zero-is, value-shl, zero-shl}
+
+module _ (s : Self) (w : Sound (s .core)) where
+  pub fmul-is : (d r : ℕ) → d < 32 → r < 32 → fmul d r s ≡ leaves s (fmulOf (s .core) d r)
+  unfolding fmul withReg withBusy
+  fmul-is d r hd hr =
+      let e = w .count in
+      let g = w .sreg-lt in
+      let l : 0 < 31 = omega arith in
+      let a = reg (s .core) d in
+      let b = reg (s .core) r in
+      let h : a * b < 65536 = product-lt 8 (w .reg-lt d) (w .reg-lt r) in
+      let f : a * b % 65536 ≡ a * b = omega arith in
+      rw (get-ok _ d, get-ok _ r, lt-ltb (a * b) 65536 h, set-word-ok, cz-ok, f, bit15 (a * b) h)
+
+  pub fmuls-is : (d r : ℕ) → d < 32 → r < 32 → fmuls d r s ≡ leaves s (fmulsOf (s .core) d r)
+  unfolding fmuls withReg withBusy
+  fmuls-is d r hd hr =
+      let e = w .count in
+      let g = w .sreg-lt in
+      let l : 0 < 31 = omega arith in
+      let a = reg (s .core) d in
+      let b = reg (s .core) r in
+      let ha = w .reg-lt d in
+      let hb = w .reg-lt r in
+      let word = u8-as-i8 a *ℤ u8-as-i8 b in
+      rw (get-ok _ d, get-ok _ r, range-ss a b ha hb, zero-shl word, value-shl word, value-ss a b ha hb, set-word-ok, cz-ok, bit15 (productOf (signedOf a) (signedOf b)) (omega arith))
+
+  pub fmulsu-is : (d r : ℕ) → d < 32 → r < 32 → fmulsu d r s ≡ leaves s (fmulsuOf (s .core) d r)
+  unfolding fmulsu withReg withBusy
+  fmulsu-is d r hd hr =
+      let e = w .count in
+      let g = w .sreg-lt in
+      let l : 0 < 31 = omega arith in
+      let a = reg (s .core) d in
+      let b = reg (s .core) r in
+      let ha = w .reg-lt d in
+      let hb = w .reg-lt r in
+      let word = u8-as-i8 a *ℤ pos b in
+      rw (get-ok _ d, get-ok _ r, range-su a b ha hb, zero-shl word, value-shl word, value-su a b ha hb, set-word-ok, cz-ok, bit15 (productOf (signedOf a) b) (omega arith))
+
+  pub mul-is : (d r : ℕ) → d < 32 → r < 32 → mul d r s ≡ leaves s (mulOf (s .core) d r)
+  unfolding mul withReg withBusy
+  mul-is d r hd hr =
+      let e = w .count in
+      let g = w .sreg-lt in
+      let l : 0 < 31 = omega arith in
+      let a = reg (s .core) d in
+      let b = reg (s .core) r in
+      let h : a * b < 65536 = product-lt 8 (w .reg-lt d) (w .reg-lt r) in
+      let f : a * b % 65536 ≡ a * b = omega arith in
+      rw (get-ok _ d, get-ok _ r, lt-ltb (a * b) 65536 h, set-word-ok, cz-ok, f, bit15 (a * b) h)
+
+  pub muls-is : (d r : ℕ) → d < 32 → r < 32 → muls d r s ≡ leaves s (mulsOf (s .core) d r)
+  unfolding muls withReg withBusy
+  muls-is d r hd hr =
+      let e = w .count in
+      let g = w .sreg-lt in
+      let l : 0 < 31 = omega arith in
+      let a = reg (s .core) d in
+      let b = reg (s .core) r in
+      let ha = w .reg-lt d in
+      let hb = w .reg-lt r in
+      let word = u8-as-i8 a *ℤ u8-as-i8 b in
+      rw (get-ok _ d, get-ok _ r, range-ss a b ha hb, zero-is word (range-ss a b ha hb), value-ss a b ha hb, set-word-ok, cz-ok, bit15 (productOf (signedOf a) (signedOf b)) (omega arith))
+
+  pub mulsu-is : (d r : ℕ) → d < 32 → r < 32 → mulsu d r s ≡ leaves s (mulsuOf (s .core) d r)
+  unfolding mulsu withReg withBusy
+  mulsu-is d r hd hr =
+      let e = w .count in
+      let g = w .sreg-lt in
+      let l : 0 < 31 = omega arith in
+      let a = reg (s .core) d in
+      let b = reg (s .core) r in
+      let ha = w .reg-lt d in
+      let hb = w .reg-lt r in
+      let word = u8-as-i8 a *ℤ pos b in
+      rw (get-ok _ d, get-ok _ r, range-su a b ha hb, zero-is word (range-su a b ha hb), value-su a b ha hb, set-word-ok, cz-ok, bit15 (productOf (signedOf a) b) (omega arith))

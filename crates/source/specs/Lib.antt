@@ -1,0 +1,13 @@
+-- The original as a definition. `Monad`: the Rust's `&mut self`, with panic. `Integers`: its numbers. `Registers` to `Tick`: cores.rs in its own order.
+-- `Statement`: the theorem. `Bench`: 01's bench sheet on this definition.
+pub mod Monad
+pub mod Integers
+pub mod Registers
+pub mod Pattern
+pub mod Arithmetic
+pub mod Flow
+pub mod Bits
+pub mod Transfer
+pub mod Tick
+pub mod Statement
+pub mod Bench

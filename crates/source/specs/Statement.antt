@@ -1,0 +1,73 @@
+-- Demand 2, the Rust. The Rust's tick (specs/Tick.antt) returns a bool, or it panics.
+-- Where it returns, 01's tick is not refused, leaves the same core (registers, SREG, PC, SP, busy, inhibit and in-service) and the same data, and answers break
+-- or end exactly where the bool is false. Where it panics, 01's tick is refused with one of 1 to 4.
+-- So over all cores by their types with busy at most 4, all programs, data and offers, a tick is refused exactly where a debug build panics.
+-- With busy above 4 the Rust would wait on and 01 refuses with 5: `Sound` has busy at most 4.
+use mathlib.Core.Path.{_≡_}
+use mathlib.Core.Bool.{Bool, true, false, not}
+use mathlib.Core.List.{List}
+use Prim.Native.Nat.{ℕ, _≤_}
+use Rattle.cores.specs.declared.Core.{Core}
+use Rattle.cores.specs.State.{Sound, Bytes}
+use Rattle.tick.specs.declared.Offer.{Offer}
+use Rattle.tick.specs.declared.Answer.{Answer}
+use Rattle.tick.specs.declared.Answer.the-variants.{Refused, Waited, Entered, Ran, Sleep, Watchdog, Undefined, Break, End}
+use Rattle.tick.specs.Tick.{Tick, numberOf, tickOf}
+use Rattle.source.specs.Monad.{Self, Outcome, panic, ok}
+use Rattle.source.specs.Tick.{tick}
+
+abbrev pub refuses : Answer → Bool
+refuses (Refused n) = true
+refuses Waited = false
+refuses Entered = false
+refuses Ran = false
+refuses Sleep = false
+refuses Watchdog = false
+refuses Undefined = false
+refuses Break = false
+refuses End = false
+
+-- "22 23 break, end: the Rust's `false`"
+abbrev pub stops : Answer → Bool
+stops (Refused n) = false
+stops Waited = false
+stops Entered = false
+stops Ran = false
+stops Sleep = false
+stops Watchdog = false
+stops Undefined = false
+stops Break = true
+stops End = true
+
+-- the Rust returned b and left u
+pub record Agrees (t : Tick) (b : Bool) (u : Self) : Type 0 where
+  pub not-refused : refuses (t .answer) ≡ false
+  pub bool : b ≡ not (stops (t .answer))
+  pub core : t .core ≡ u .core
+  pub bytes : t .bytes ≡ u .ds
+
+-- the Rust panicked
+pub record Refuses (t : Tick) : Type 0 where
+  pub refused : refuses (t .answer) ≡ true
+  pub from-1 : 1 ≤ numberOf (t .answer)
+  pub to-4 : numberOf (t .answer) ≤ 4
+
+abbrev pub Matches : Tick → Outcome Bool → Type 0
+Matches t panic = Refuses t
+Matches t (ok b u) = Agrees t b u
+
+-- the Rust's `self` with core k, program p, data m and what is offered
+abbrev pub selfOf : Core → List ℕ → List ℕ → Offer → Self
+selfOf k p m o = record { core = k; ds = m; progmem = p; pending = o }
+
+-- ---- the theorem, proved in proofs/Source.antt
+abbrev pub EqualsTheRust : Type 0
+EqualsTheRust = (k : Core) (p m : List ℕ) (o : Offer) → Sound k → Bytes p → Bytes m → Matches (tickOf k p m o) (tick (selfOf k p m o))
+
+-- and in one line: "refused exactly where it panics"
+abbrev pub panics : Outcome Bool → Bool
+panics panic = true
+panics (ok b u) = false
+
+abbrev pub RefusedExactlyWhereItPanics : Type 0
+RefusedExactlyWhereItPanics = (k : Core) (p m : List ℕ) (o : Offer) → Sound k → Bytes p → Bytes m → refuses (tickOf k p m o .answer) ≡ panics (tick (selfOf k p m o))
