@@ -1,0 +1,7 @@
+-- What is promised. Demand 3: `RegisterOnly` has 01's list, `Handlers` says which ticks are a handler's, `Interrupts` states the demand, `Stamps` has a
+-- run that meets it and one that does not; `Machine` has the laws that it is proved from.
+pub mod RegisterOnly
+pub mod Handlers
+pub mod Interrupts
+pub mod Stamps
+pub mod Machine
