@@ -1,0 +1,2 @@
+-- `Run`: 01's run, as ticks one after another.
+pub mod Run

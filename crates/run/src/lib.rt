@@ -1,0 +1,79 @@
+// Runs: ticks one after another under one held offer, until the budget is spent, a break, the end, or a refusal.
+use cores::Core;
+use tick::Answer;
+use tick::Offer;
+ghost use mathlib.Core.Path.{_≡_};
+ghost use Rattle.run.specs.Run.{refuses, stops, runOf, Runs};
+
+// The answer is 24, 22, 23 or the refusal, by 01's numbers; `ticks` counts the ticks done.
+pub struct Ran {
+    pub answer: u8,
+    pub ticks: u32,
+    pub core: Core,
+}
+
+const BUDGET: u8 = 24;
+
+pub fn refuses(answer: Answer) -> bool
+    ensures { λ r. ⌜ r ≡ refuses answer ⌝ }
+{
+    match answer {
+        Answer::Refused(_) => true,
+        Answer::Waited => false,
+        Answer::Entered => false,
+        Answer::Ran => false,
+        Answer::Sleep => false,
+        Answer::Watchdog => false,
+        Answer::Undefined => false,
+        Answer::Break => false,
+        Answer::End => false,
+    }
+}
+
+pub fn stops(answer: Answer) -> bool
+    ensures { λ r. ⌜ r ≡ stops answer ⌝ }
+{
+    match answer {
+        Answer::Break => true,
+        Answer::End => true,
+        Answer::Refused(_) => false,
+        Answer::Waited => false,
+        Answer::Entered => false,
+        Answer::Ran => false,
+        Answer::Sleep => false,
+        Answer::Watchdog => false,
+        Answer::Undefined => false,
+    }
+}
+
+pub fn run(core: Core, program: &[u8], data: &mut [u8], offer: Offer, budget: u32) -> Ran
+    ensures { λ r. ⌜ Runs (runOf budget core (now (program .entry)) (now («data» .entry)) offer) r (now («data» .exit)) ⌝ }
+{
+    let mut now = core;
+    let mut ticks: u32 = 0;
+    while ticks < budget {
+        let ticked = tick::tick(now, program, data, offer);
+        let answer = ticked.answer;
+        now = ticked.core;
+        if refuses(answer) {
+            return Ran {
+                answer: tick::number(answer),
+                ticks,
+                core: now,
+            };
+        }
+        ticks += 1;
+        if stops(answer) {
+            return Ran {
+                answer: tick::number(answer),
+                ticks,
+                core: now,
+            };
+        }
+    }
+    Ran {
+        answer: BUDGET,
+        ticks,
+        core: now,
+    }
+}
