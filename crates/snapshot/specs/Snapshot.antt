@@ -1,0 +1,64 @@
+-- 01: "Snapshot, most significant bit first: R0 to R31, SREG, PC, SP, busy 3 bits, inhibit 1, in-service 1, three zero bits: 38 bytes."
+use mathlib.Core.Path.{_≡_}
+use mathlib.Core.Bool.{Bool}
+use mathlib.Core.List.{List, [], _∷_, _++_}
+use Prim.Native.Nat.{ℕ, _+_, _*_, _/_, _%_}
+use lib.Dec.{eqb, ltb}
+use lib.ListN.{getD, take, length}
+use Rattle.basis.specs.Pick.{pick}
+use Rattle.basis.specs.Bit.{one}
+use Rattle.cores.specs.declared.Core.{Core}
+use Rattle.cores.specs.State.{freshOf, Sound, Bytes}
+use Rattle.snapshot.specs.declared.SnapshotRead.{SnapshotRead}
+
+-- a core's 38 bytes
+abbrev pub bytesOf : Core → List ℕ
+bytesOf k =
+    k .regs
+    ++ (k .sreg ∷ k .pc / 256 ∷ k .pc % 256 ∷ k .sp / 256 ∷ k .sp % 256 ∷ (k .busy * 32 + one (k .inhibit) * 16 + one (k .«in_service») * 8) ∷ [])
+
+-- the core that 38 bytes say
+abbrev pub coreOf : List ℕ → Core
+coreOf s =
+    record {
+      regs = take 32 s;
+      sreg = getD s 32 0;
+      pc = getD s 33 0 * 256 + getD s 34 0;
+      sp = getD s 35 0 * 256 + getD s 36 0;
+      busy = getD s 37 0 / 32;
+      inhibit = eqb (getD s 37 0 / 16 % 2) 1;
+      «in_service» = eqb (getD s 37 0 / 8 % 2) 1;
+    }
+
+-- ---- writing: a refusal's number, 0 for none, and the buffer
+pub record Written : Type 0 where
+  pub refusal : ℕ
+  pub bytes : List ℕ
+
+abbrev pub wrote : ℕ → List ℕ → Written
+wrote n s = record { refusal = n; bytes = s }
+
+-- "Writing checks the output's length (7), then busy above 4 (5)." A refused write changes no byte
+abbrev pub writeOf : Core → List ℕ → Written
+writeOf k out = pick (eqb (length out) 38) (pick (ltb 4 (k .busy)) (wrote 5 out) (wrote 0 (bytesOf k))) (wrote 7 out)
+
+pub record Writes (w : Written) (n : ℕ) (s : List ℕ) : Type 0 where
+  pub refusal : n ≡ w .refusal
+  pub bytes : s ≡ w .bytes
+
+-- ---- reading: "7, 8, 9 refused: snapshot not 38 bytes; busy field above 4; spare bits not zero"
+abbrev pub refusedRead : ℕ → SnapshotRead
+refusedRead n = record { refusal = n; core = freshOf 0 }
+
+abbrev pub readOf : List ℕ → SnapshotRead
+readOf s =
+    pick (eqb (length s) 38)
+    (pick (ltb 4 (getD s 37 0 / 32)) (refusedRead 8) (pick (eqb (getD s 37 0 % 8) 0) (record { refusal = 0; core = coreOf s }) (refusedRead 9)))
+    (refusedRead 7)
+
+-- ---- the theorems, proved in proofs/RoundTrips.antt: "Reading undoes writing and the reverse."
+abbrev pub ReadingUndoesWriting : Type 0
+ReadingUndoesWriting = (k : Core) → Sound k → readOf (bytesOf k) ≡ record { refusal = 0; core = k }
+
+abbrev pub WritingUndoesReading : Type 0
+WritingUndoesReading = (s : List ℕ) → Bytes s → readOf s .refusal ≡ 0 → bytesOf (readOf s .core) ≡ s
