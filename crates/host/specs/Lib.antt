@@ -1,0 +1,2 @@
+-- `Host`: 01's C interface.
+pub mod Host

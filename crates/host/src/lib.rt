@@ -1,0 +1,61 @@
+// The C interface: the tick and the run over a snapshot. Numbers are 01's; 65,536 is no offer.
+use tick::Offer;
+ghost use mathlib.Core.Path.{_≡_};
+ghost use Rattle.host.specs.Host.{offerOf, avrTickOf, avrRunOf, Tells, TellsTicks};
+
+fn offer_of(offer: u32) -> Offer
+    ensures { λ o. ⌜ o ≡ offerOf offer ⌝ }
+{
+    if offer < 65536 {
+        Offer::Vector(offer as u16)
+    } else {
+        Offer::Nothing
+    }
+}
+
+// One tick: checks 10, 7, 8, 9, then the tick. A refused call changes no byte.
+#[no_mangle]
+pub extern "C" fn avr_tick(snapshot: &mut [u8], program: &[u8], data: &mut [u8], offer: u32) -> u32
+    ensures { λ n. ⌜ Tells (avrTickOf (now (snapshot .entry)) (now (program .entry)) (now («data» .entry)) offer) n (now (snapshot .exit)) (now («data» .exit)) ⌝ }
+{
+    if offer > 65536 {
+        return 10;
+    }
+    let read = snapshot::read(snapshot);
+    if read.refusal != 0 {
+        return read.refusal as u32;
+    }
+    let core = read.core;
+    let ticked = tick::tick(core, program, data, offer_of(offer));
+    let answer = ticked.answer;
+    let next = ticked.core;
+    snapshot::write(next, snapshot);
+    tick::number(answer) as u32
+}
+
+// A run: the same checks, then the run, its count into `ticks`. A call refused by a check leaves `ticks` as it was.
+#[no_mangle]
+pub extern "C" fn avr_run(
+    snapshot: &mut [u8],
+    program: &[u8],
+    data: &mut [u8],
+    offer: u32,
+    budget: u32,
+    ticks: &mut u32,
+) -> u32
+    ensures { λ n. ⌜ TellsTicks (avrRunOf (now (snapshot .entry)) (now (program .entry)) (now («data» .entry)) offer budget (now (ticks .entry))) n (now (snapshot .exit)) (now («data» .exit)) (now (ticks .exit)) ⌝ }
+{
+    if offer > 65536 {
+        return 10;
+    }
+    let read = snapshot::read(snapshot);
+    if read.refusal != 0 {
+        return read.refusal as u32;
+    }
+    let core = read.core;
+    let ran = run::run(core, program, data, offer_of(offer), budget);
+    let next = ran.core;
+    snapshot::write(next, snapshot);
+    *ticks = ran.ticks;
+    ran.answer as u32
+}
