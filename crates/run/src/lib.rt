@@ -3,6 +3,7 @@ use cores::Core;
 use tick::Answer;
 use tick::Offer;
 ghost use mathlib.Core.Path.{_≡_};
+ghost use Rattle.tick.specs.Tick.{numberOf};
 ghost use Rattle.run.specs.Run.{refuses, stops, runOf, Runs};
 
 // The answer is 24, 22, 23 or the refusal, by 01's numbers; `ticks` counts the ticks done.
@@ -54,26 +55,29 @@ pub fn run(core: Core, program: &[u8], data: &mut [u8], offer: Offer, budget: u3
     while ticks < budget {
         let ticked = tick::tick(now, program, data, offer);
         let answer = ticked.answer;
+        let done = ticks + 1;
         now = ticked.core;
         if refuses(answer) {
-            return Ran {
-                answer: tick::number(answer),
-                ticks,
-                core: now,
-            };
+            return ended(answer, ticks, now);
         }
-        ticks += 1;
         if stops(answer) {
-            return Ran {
-                answer: tick::number(answer),
-                ticks,
-                core: now,
-            };
+            return ended(answer, done, now);
         }
+        ticks = done;
     }
     Ran {
         answer: BUDGET,
         ticks,
         core: now,
+    }
+}
+
+fn ended(answer: Answer, ticks: u32, core: Core) -> Ran
+    ensures { λ r. ⌜ r ≡ record { answer = numberOf answer; ticks = ticks; core = core } ⌝ }
+{
+    Ran {
+        answer: tick::number(answer),
+        ticks,
+        core,
     }
 }

@@ -25,6 +25,7 @@ run-spec =
     μ-loop
     (λ c. (search needs, (search needs, begun _ _ _ _ _)))
     (λ c κs. search needs)
+    (λ c. search needs)
     (λ c κs. search needs)
     (λ c κs. search needs)
     (λ c. search needs)
@@ -33,9 +34,8 @@ run-spec =
     let t = c .before .before .before .before .before .before .tick .ensures in
     let inv = l .inv .1 .1 in
     let r : refuses (tickOf (l .now) (a .program .now) (l .«data») (a .offer) .answer) ≡ c .before .before .refuses .result = rw (← t .answer) (sym (c .before .before .refuses .ensures)) in
-    rw (inv, unroll-refused (a .budget) (l .ticks) (l .now) (a .program .now) (l .«data») (a .offer) (c .before .before .before .before .before .before .before .before .loop-test .taken) (r ∙ c .before .if1 .taken))
-    (record { answer = c .number .ensures ∙ ap numberOf (t .answer); count = refl; core = t .core; bytes = t .bytes }))
-    (λ c. search needs)
+    rw (inv, unroll-refused (a .budget) (l .ticks) (l .now) (a .program .now) (l .«data») (a .offer) (c .before .before .before .before .before .before .before .before .loop-test .taken) (r ∙ c .before .if1 .taken), c .ended .ensures)
+    (record { answer = ap numberOf (t .answer); count = refl; core = t .core; bytes = t .bytes }))
     (λ c κs. search needs)
     (λ c κs. search needs)
     (λ c. search needs)
@@ -45,8 +45,8 @@ run-spec =
     let inv = l .inv .1 .1 in
     let r : refuses (tickOf (l .now) (a .program .now) (l .«data») (a .offer) .answer) ≡ c .before .before .before .before .refuses .result = rw (← t .answer) (sym (c .before .before .before .before .refuses .ensures)) in
     let s : stops (tickOf (l .now) (a .program .now) (l .«data») (a .offer) .answer) ≡ c .before .before .stops .result = rw (← t .answer) (sym (c .before .before .stops .ensures)) in
-    rw (inv, unroll-stopped (a .budget) (l .ticks) (l .now) (a .program .now) (l .«data») (a .offer) (c .before .before .before .before .before .before .before .before .before .before .loop-test .taken) (r ∙ c .before .before .before .if1 .left) (s ∙ c .before .if2 .taken))
-    (record { answer = c .number2 .ensures ∙ ap numberOf (t .answer); count = refl; core = t .core; bytes = t .bytes }))
+    rw (inv, unroll-stopped (a .budget) (l .ticks) (l .now) (a .program .now) (l .«data») (a .offer) (c .before .before .before .before .before .before .before .before .before .before .loop-test .taken) (r ∙ c .before .before .before .if1 .left) (s ∙ c .before .if2 .taken), c .ended2 .ensures)
+    (record { answer = ap numberOf (t .answer); count = refl; core = t .core; bytes = t .bytes }))
     (λ c. search needs)
     (λ c. let l = c .before .before .before .before .before .before .before .before .before .before .loop in
     let a = c .before .before .before .before .before .before .before .before .before .before .before .before .before .args in
