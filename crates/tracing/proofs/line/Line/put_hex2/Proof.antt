@@ -1,0 +1,17 @@
+-- `put_hex2`: a byte as two digits.
+-- Assumes nothing.
+use mathlib.Core.Path.{sym}
+use borrow.Author.Needs.{needs}
+use Rattle.tracing.proofs.Joined.{both}
+use Rattle.tracing.proofs.line.Line.put_hex2.Statement.{statement}
+use Rattle.tracing.proofs.line.Line.put_hex2.Tie as tie
+
+pub put-hex2-spec : {M : Type 1} → statement M
+put-hex2-spec =
+    tie.close
+    (tie.spec
+    (λ c κs. search needs)
+    (λ c κs. search needs)
+    (λ c κs. search needs)
+    (λ c κs. search needs)
+    (λ c. rw (sym (c .before .hex-digit2 .ensures), sym (c .before .before .before .hex-digit .ensures)) (both (c .before .before .put .ensures) (c .put2 .ensures))))

@@ -1,0 +1,87 @@
+-- 01, "Program `trace`".
+use mathlib.Core.Path.{_≡_}
+use mathlib.Core.Bool.{Bool}
+use mathlib.Core.List.{List, [], _∷_, _++_}
+use Prim.Native.Nat.{ℕ, _+_, _*_, _/_, _%_, _≤_}
+use Prim.Native.Char.{code}
+use Prim.Native.String.{String, [] as end, _∷_ as then}
+use lib.Dec.{ltb, leb}
+use lib.ListN.{getD, take, length}
+use Rattle.basis.specs.Pick.{pick}
+use Rattle.cores.specs.declared.Core.{Core}
+use Rattle.tick.specs.declared.Answer.{Answer}
+use Rattle.tick.specs.declared.Answer.the-variants.{Refused, Waited, Entered, Ran, Sleep, Watchdog, Undefined, Break, End}
+use Rattle.tracing.specs.declared.line.Line.{Line}
+use Rattle.tracing.specs.declared.job.Job.{Job}
+use Rattle.tracing.specs.declared.job.Job.the-variants.{Bad, Trace}
+
+-- ---- input: "three 16-bit numbers, high byte first (program bytes P, SP, budget), then P bytes; the rest is ignored.
+-- P above 49,152 or input too short prints `bad input`."
+abbrev pub wordIn : List ℕ → ℕ → ℕ
+wordIn s at = getD s at 0 * 256 + getD s (at + 1) 0
+
+abbrev pub jobOf : List ℕ → Job
+jobOf s =
+    let size = wordIn s 0 in
+    pick (ltb 49152 size) Bad (pick (ltb (length s) (size + 6)) Bad (Trace size (wordIn s 2) (wordIn s 4)))
+
+-- a job's program lies in the input
+abbrev pub Within : Job → List ℕ → Type 0
+Within Bad s = 0 ≤ length s
+Within (Trace size sp budget) s = size + 6 ≤ length s
+
+-- ---- texts, as the codes of their characters
+abbrev pub text : String → List ℕ
+text end = []
+text (then c t) = code c ∷ text t
+
+-- "PC and SP four hex digits, SREG two": capitals
+abbrev pub hexDigit : ℕ → ℕ
+hexDigit x = let d = x % 16 in pick (ltb d 10) (48 + d) (55 + d)
+
+abbrev pub hex2 : ℕ → List ℕ
+hex2 x = hexDigit (x / 16) ∷ hexDigit x ∷ []
+
+abbrev pub hex4 : ℕ → List ℕ
+hex4 x = hex2 (x / 256) ++ hex2 (x % 256)
+
+-- "decimal number": no leading zero. The digit of p, where the number reaches p
+abbrev pub digit : ℕ → ℕ → List ℕ
+digit n p = pick (leb p n) ((48 + n / p % 10) ∷ []) []
+
+abbrev pub decimal : ℕ → List ℕ
+decimal n = digit n 10000 ++ digit n 1000 ++ digit n 100 ++ digit n 10 ++ ((48 + n % 10) ∷ [])
+
+-- "Words: waited ran sleep watchdog undefined break end, or `refused-N`"; no vector is offered, so no line says entered
+abbrev pub wordOf : Answer → List ℕ
+wordOf (Refused n) = text "refused-" ++ ((48 + n % 10) ∷ [])
+wordOf Waited = text "waited"
+wordOf Entered = text "entered"
+wordOf Ran = text "ran"
+wordOf Sleep = text "sleep"
+wordOf Watchdog = text "watchdog"
+wordOf Undefined = text "undefined"
+wordOf Break = text "break"
+wordOf End = text "end"
+
+abbrev pub space : List ℕ
+space = 32 ∷ []
+
+-- "One line a tick, fields one space apart: decimal number from 1, PC before, word, PC after, busy, SREG, SP"; "Every line ends in LF."
+abbrev pub lineOf : ℕ → ℕ → Answer → Core → List ℕ
+lineOf number before answer k =
+    decimal number ++ space ++ hex4 before ++ space ++ wordOf answer ++ space ++ hex4 (k .pc) ++ space
+    ++ ((48 + k .busy % 10) ∷ []) ++ space ++ hex2 (k .sreg) ++ space ++ hex4 (k .sp) ++ (10 ∷ [])
+
+-- ---- the code's line: its text
+abbrev pub textOf : Line → List ℕ
+textOf l = take (l .len) (l .bytes)
+
+-- the second line is the first with more behind it, as far as that fits
+pub record Puts (l m : Line) (more : List ℕ) : Type 0 where
+  pub text : textOf m ≡ take 40 (textOf l ++ more)
+
+-- the line has this text, and no more bytes than it holds
+pub record Says (l : Line) (t : List ℕ) : Type 0 where
+  pub text : textOf l ≡ t
+  pub fits : l .len ≤ 40
