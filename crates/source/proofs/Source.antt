@@ -16,9 +16,9 @@ use Rattle.tick.specs.declared.Offer.the-variants.{Vector, Nothing}
 use Rattle.tick.specs.declared.Answer.the-variants.{Waited, Entered, End}
 use Rattle.execute.specs.Needs.{Needs, refusal, pushNeeds, needs, fetched, withFetch}
 use Rattle.execute.specs.Execute.{executed}
-use Rattle.tick.specs.Tick.{Tick, numberOf, gives, decided, due, entry, executedTick, stepped, entersOrSteps, ticked, tickOf}
+use Rattle.tick.specs.Tick.{Tick, numberOf, gives, decided, due, entry, executedTick, stepped, entersOrSteps, ticked, tickOf, inPlace}
 use Rattle.source.specs.Monad.{Self, panic}
-use Rattle.source.specs.Statement.{refuses, Matches, panics, selfOf, EqualsTheRust, RefusedExactlyWhereItPanics}
+use Rattle.source.specs.Statement.{refuses, Matches, panics, selfOf, EqualsTheRust, RefusedExactlyWhereItPanics, CodeEqualsTheRust, InPlaceEqualsTheRust}
 use Rattle.source.proofs.Needs.{to-4}
 use Rattle.source.proofs.Program.{opAt}
 use Rattle.source.proofs.Tick.{shown, executed-calm, tick-is}
@@ -76,3 +76,10 @@ refused-exactly-where-it-panics k p m o w bp bm =
     let s = selfOf k p m o in
     let t = tickOf k p m o in
     rw (tick-is s w bm bp) (panics-by s t (refuses (t .answer)))
+
+-- ---- of the code: what meets the contract is that tick
+pub code-equals-the-rust : CodeEqualsTheRust
+code-equals-the-rust k p m o r n w bp bm c = rw (c .answer, c .core, c .bytes) (equals-the-rust k p m o w bp bm)
+
+pub in-place-equals-the-rust : InPlaceEqualsTheRust
+in-place-equals-the-rust k p m o a j n w bp bm c = code-equals-the-rust k p m o (inPlace a j) n w bp bm c

@@ -12,7 +12,8 @@ use Rattle.cores.specs.State.{Sound, Bytes}
 use Rattle.tick.specs.declared.Offer.{Offer}
 use Rattle.tick.specs.declared.Answer.{Answer}
 use Rattle.tick.specs.declared.Answer.the-variants.{Refused, Waited, Entered, Ran, Sleep, Watchdog, Undefined, Break, End}
-use Rattle.tick.specs.Tick.{Tick, numberOf, tickOf}
+use Rattle.tick.specs.declared.Ticked.{Ticked}
+use Rattle.tick.specs.Tick.{Tick, gives, numberOf, tickOf, Ticks, inPlace}
 use Rattle.source.specs.Monad.{Self, Outcome, panic, ok}
 use Rattle.source.specs.Tick.{tick}
 
@@ -71,3 +72,15 @@ panics (ok b u) = false
 
 abbrev pub RefusedExactlyWhereItPanics : Type 0
 RefusedExactlyWhereItPanics = (k : Core) (p m : List ℕ) (o : Offer) → Sound k → Bytes p → Bytes m → refuses (tickOf k p m o .answer) ≡ panics (tick (selfOf k p m o))
+
+-- ---- of the code that runs: whatever meets the contract of `tick` (r handed back, n left in the data) or of `tick_in_place` (a handed back, j left behind the
+-- reference, n left in the data) is the Rust's tick
+abbrev pub CodeEqualsTheRust : Type 0
+CodeEqualsTheRust =
+    (k : Core) (p m : List ℕ) (o : Offer) (r : Ticked) (n : List ℕ) → Sound k → Bytes p → Bytes m →
+    Ticks (tickOf k p m o) r n → Matches (gives (r .answer) (r .core) n) (tick (selfOf k p m o))
+
+abbrev pub InPlaceEqualsTheRust : Type 0
+InPlaceEqualsTheRust =
+    (k : Core) (p m : List ℕ) (o : Offer) (a : Answer) (j : Core) (n : List ℕ) → Sound k → Bytes p → Bytes m →
+    Ticks (tickOf k p m o) (inPlace a j) n → Matches (gives a j n) (tick (selfOf k p m o))
