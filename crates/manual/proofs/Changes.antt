@@ -1,0 +1,225 @@
+-- Whatever the switches, an instruction does what it does with every switch on, changed as specs/Differences.antt says.
+-- Assumes nothing.
+use mathlib.Core.Path.{_≡_, refl, ap}
+use mathlib.Core.Bool.{Bool, true, false, not, _||_}
+use mathlib.Core.List.{List}
+use Prim.Native.Nat.{ℕ, _+_, _%_, _-_, _<_}
+use lib.Dec.{eqb}
+use Rattle.basis.specs.Pick.{pick}
+use Rattle.basis.specs.Bit.{up, down}
+use Rattle.bits.proofs.Booleans.{five-agree}
+use Rattle.instruction.specs.declared.Instruction.{Instruction}
+use Rattle.instruction.specs.declared.Instruction.the-variants.{ADC, ADD, ADIW, AND, ANDI, ASR, BCLR, BLD, BRBC, BRBS, BREAK, BSET, BST, CALL, CBI, COM, CP, CPC, CPI, CPSE, DEC, EOR, FMUL, FMULS, FMULSU, ICALL, IJMP, IN, INC, JMP, LDX, LDXinc, LDXdec, LDYinc, LDYdec, LDZinc, LDZdec, LDDY, LDDZ, LDI, LDS, LPM, LPMZ, LPMZinc, LSL, LSR, MOV, MOVW, MUL, MULS, MULSU, NEG, NOP, OR, ORI, OUT, POP, PUSH, RCALL, RET, RETI, RJMP, ROR, SBC, SBCI, SBI, SBIC, SBIS, SBIW, SBRC, SBRS, SLEEP, STX, STXdec, STXinc, STYdec, STYinc, STZdec, STZinc, STDY, STDZ, STS, SUB, SUBI, SWAP, WDR, UNDEF}
+use Rattle.cores.specs.declared.Core.{Core}
+use Rattle.cores.specs.State.{Out, out, reg, word, withReg, withWord, withSreg, withBusy, withPc, withSp, withInhibit}
+use Rattle.cores.specs.Flow.{wordPushed}
+use Rattle.cores.specs.Transfer.{dataOf}
+use Rattle.tick.specs.declared.Answer.{Answer}
+use Rattle.tick.specs.declared.Answer.the-variants.{Ran, Watchdog, Break}
+use Rattle.manual.specs.Notation.{_!_, _•_, _⊕_, bar, zero16, kept, is, row, bitTo, next, goes}
+use Rattle.manual.specs.Switches.{Switches, theRust, Says, undefined, says, ran, ranOut, definedIf}
+use Rattle.manual.specs.Pointers.{X, Y, Z, isIn, load, loadInc, loadDec, store, storeInc, storeDec}
+use Rattle.manual.specs.AdcToCpse.{adiw, break, bset, call}
+use Rattle.manual.specs.DecToLsr.{jmp}
+use Rattle.manual.specs.SbcToWdr.{sleep, wdr}
+use Rattle.manual.specs.Instructions.{instruction}
+use Rattle.manual.specs.Differences.{overflowBy, waits, inhibits, lands, changed}
+use Rattle.manual.proofs.Flow.{stored-busy}
+
+-- ---- ADIW: V and S made again over a row that has them
+row-again : (v g n z c : Bool) (s : ℕ) → s < 256
+    → let x = row s kept kept kept (is (n ⊕ v)) (is v) (is n) (is z) (is c) in
+    row s kept kept kept (is (n ⊕ (bar g • n))) (is (bar g • n)) (is n) (is z) (is c) ≡ row x kept kept kept (is (x ! 2 ⊕ (bar g • x ! 2))) (is (bar g • x ! 2)) kept kept kept
+unfolding row
+row-again =
+    five-agree 256 (λ v g n z c s. row s kept kept kept (is (n ⊕ (bar g • n))) (is (bar g • n)) (is n) (is z) (is c))
+    (λ v g n z c s. let x = row s kept kept kept (is (n ⊕ v)) (is v) (is n) (is z) (is c) in row x kept kept kept (is (x ! 2 ⊕ (bar g • x ! 2))) (is (bar g • x ! 2)) kept kept kept) tt
+
+-- the page of ADIW, with its switch as a Boolean
+abbrev adiwBy : Bool → Core → ℕ → ℕ → Core
+adiwBy low k d K =
+    let Rdh7 = reg k (d + 1) ! 7 in
+    let R = (word k d + K) % 65536 in
+    let «V» = bar (pick low (reg k d ! 7) Rdh7) • R ! 15 in
+    withSreg (withWord (next k 1 2) d R) (row (k .sreg) kept kept kept (is (R ! 15 ⊕ «V»)) (is «V») (is (R ! 15)) (is (zero16 R)) (is (bar (R ! 15) • Rdh7)))
+
+adiw-by : (on : Bool) (k : Core) (d K : ℕ) (m : List ℕ) → k .sreg < 256
+    → ran (adiwBy on k d K) m ≡ pick on (ran (adiwBy true k d K) m) (overflowBy (reg k (d + 1)) (ran (adiwBy true k d K) m))
+adiw-by true k d K m h = refl
+adiw-by false k d K m h =
+    let R = (word k d + K) % 65536 in
+    ap (λ (x : ℕ). ran (withSreg (withWord (next k 1 2) d R) x) m)
+    (row-again (bar (reg k d ! 7) • R ! 15) (reg k (d + 1) ! 7) (R ! 15) (zero16 R) (bar (R ! 15) • reg k (d + 1) ! 7) (k .sreg) h)
+
+-- ---- pointer loads
+load-by : (on : Bool) (k : Core) (d P q : ℕ) (m : List ℕ) → ran (load (pick on 3 2) k d P q m) m ≡ pick on (ran (load 3 k d P q m) m) (waits 1 (ran (load 3 k d P q m) m))
+unfolding load next withBusy withPc withReg
+load-by true k d P q m = refl
+load-by false k d P q m = refl
+
+load-inc-by : (on : Bool) (k : Core) (d P : ℕ) (m : List ℕ) → ran (loadInc (pick on 3 2) k d P m) m ≡ pick on (ran (loadInc 3 k d P m) m) (waits 1 (ran (loadInc 3 k d P m) m))
+unfolding loadInc next withBusy withPc withReg
+load-inc-by true k d P m = refl
+load-inc-by false k d P m = refl
+
+load-dec-by : (on : Bool) (k : Core) (d P : ℕ) (m : List ℕ) → ran (loadDec (pick on 3 2) k d P m) m ≡ pick on (ran (loadDec 3 k d P m) m) (waits 1 (ran (loadDec 3 k d P m) m))
+unfolding loadDec next withBusy withPc withReg dataOf
+load-dec-by true k d P m = refl
+load-dec-by false k d P m = refl
+
+-- ---- pointer stores
+sooner : (k : Core) → next k 1 1 ≡ withBusy (next k 1 2) 0
+unfolding next withBusy
+sooner k = refl
+
+abbrev unwaited : Out → Out
+unwaited o = out (withBusy (o .core) 0) (o .bytes)
+
+store-sooner : (k : Core) (r P q : ℕ) (m : List ℕ) → store 1 k r P q m ≡ unwaited (store 2 k r P q m)
+unfolding store
+store-sooner k r P q m = rw (sooner k) (stored-busy (next k 1 2) 0 (word k P + q) (reg k r) m)
+
+store-inc-sooner : (k : Core) (r P : ℕ) (m : List ℕ) → storeInc 1 k r P m ≡ unwaited (storeInc 2 k r P m)
+unfolding storeInc withReg withBusy
+store-inc-sooner k r P m = rw (sooner k, stored-busy (next k 1 2) 0 (word k P) (reg k r) m)
+
+store-dec-sooner : (k : Core) (r P : ℕ) (m : List ℕ) → storeDec 1 k r P m ≡ unwaited (storeDec 2 k r P m)
+unfolding storeDec withReg withBusy
+store-dec-sooner k r P m =
+    let a = down (word k P) 1 in
+    let k₁ = withWord (next k 1 2) P a in
+    rw (sooner k) (stored-busy k₁ 0 a (reg k₁ r) m)
+
+store-by : (on : Bool) (k : Core) (r P q : ℕ) (m : List ℕ) → ranOut (store (pick on 2 1) k r P q m) ≡ pick on (ranOut (store 2 k r P q m)) (waits 0 (ranOut (store 2 k r P q m)))
+store-by true k r P q m = refl
+store-by false k r P q m = ap ranOut (store-sooner k r P q m)
+
+store-inc-by : (on : Bool) (k : Core) (r P : ℕ) (m : List ℕ) → ranOut (storeInc (pick on 2 1) k r P m) ≡ pick on (ranOut (storeInc 2 k r P m)) (waits 0 (ranOut (storeInc 2 k r P m)))
+store-inc-by true k r P m = refl
+store-inc-by false k r P m = ap ranOut (store-inc-sooner k r P m)
+
+store-dec-by : (on : Bool) (k : Core) (r P : ℕ) (m : List ℕ) → ranOut (storeDec (pick on 2 1) k r P m) ≡ pick on (ranOut (storeDec 2 k r P m)) (waits 0 (ranOut (storeDec 2 k r P m)))
+store-dec-by true k r P m = refl
+store-dec-by false k r P m = ap ranOut (store-dec-sooner k r P m)
+
+-- ---- the others
+-- through a stepped pointer
+defined-by : (on t : Bool) {x y : Says} → x ≡ y → definedIf (on || not t) x ≡ pick t (pick on y undefined) y
+defined-by true true e = e
+defined-by true false e = e
+defined-by false true e = refl
+defined-by false false e = e
+
+sei-by : (on t : Bool) (k : Core) (m : List ℕ) → ran (pick (on || not t) k (withInhibit k true)) m ≡ pick t (pick on (ran k m) (inhibits (ran k m))) (ran k m)
+sei-by true true k m = refl
+sei-by true false k m = refl
+sei-by false true k m = refl
+sei-by false false k m = refl
+
+answer-by : (on : Bool) (a : Answer) (k : Core) (m : List ℕ) → says (pick on a Ran) k m ≡ pick on (says a k m) (says Ran k m)
+answer-by true a k m = refl
+answer-by false a k m = refl
+
+call-by : (on : Bool) (k : Core) (t : ℕ) (m : List ℕ)
+    → let called : ℕ → Out = λ t. wordPushed (goes k t 3) (up (k .pc) 2) m in
+    ranOut (called (pick on (t % 65536) t)) ≡ pick on (ranOut (called (t % 65536))) (lands t (ranOut (called (t % 65536))))
+unfolding goes withPc withBusy withSp
+call-by true k t m = refl
+call-by false k t m = refl
+
+jmp-by : (on : Bool) (k : Core) (t : ℕ) (m : List ℕ) → ran (goes k (pick on (t % 65536) t) 3) m ≡ pick on (ran (goes k (t % 65536) 3) m) (lands t (ran (goes k (t % 65536) 3) m))
+unfolding goes withPc withBusy
+jmp-by true k t m = refl
+jmp-by false k t m = refl
+
+-- ---- every instruction
+module _ (s : Switches) (two : Bool) (k : Core) (p m : List ℕ) (h : k .sreg < 256) where
+  pub instruction-changed : (i : Instruction) → instruction s two k i p m ≡ changed s k i (instruction theRust two k i p m)
+  unfolding adiw break bset call jmp sleep wdr
+  instruction-changed (ADC d r) = refl
+  instruction-changed (ADD d r) = refl
+  instruction-changed (ADIW d K) = adiw-by (s .adiwV) k d K m h
+  instruction-changed (AND d r) = refl
+  instruction-changed (ANDI d K) = refl
+  instruction-changed (ASR d) = refl
+  instruction-changed (BCLR b) = refl
+  instruction-changed (BLD d b) = refl
+  instruction-changed (BRBC b o) = refl
+  instruction-changed (BRBS b o) = refl
+  instruction-changed BREAK = answer-by (s .outside) Break (next k 1 1) m
+  instruction-changed (BSET b) = sei-by (s .afterSei) (eqb b 7) (withSreg (next k 1 1) (bitTo (k .sreg) b true)) m
+  instruction-changed (BST d b) = refl
+  instruction-changed (CALL t) = call-by (s .target) k t m
+  instruction-changed (CBI A b) = refl
+  instruction-changed (COM d) = refl
+  instruction-changed (CP d r) = refl
+  instruction-changed (CPC d r) = refl
+  instruction-changed (CPI d K) = refl
+  instruction-changed (CPSE d r) = refl
+  instruction-changed (DEC d) = refl
+  instruction-changed (EOR d r) = refl
+  instruction-changed (FMUL d r) = refl
+  instruction-changed (FMULS d r) = refl
+  instruction-changed (FMULSU d r) = refl
+  instruction-changed ICALL = refl
+  instruction-changed IJMP = refl
+  instruction-changed (IN d A) = refl
+  instruction-changed (INC d) = refl
+  instruction-changed (JMP t) = jmp-by (s .target) k t m
+  instruction-changed (LDX d) = load-by (s .loads) k d X 0 m
+  instruction-changed (LDXinc d) = defined-by (s .pointers) (isIn d X) (load-inc-by (s .loads) k d X m)
+  instruction-changed (LDXdec d) = defined-by (s .pointers) (isIn d X) (load-dec-by (s .loads) k d X m)
+  instruction-changed (LDYinc d) = defined-by (s .pointers) (isIn d Y) (load-inc-by (s .loads) k d Y m)
+  instruction-changed (LDYdec d) = defined-by (s .pointers) (isIn d Y) (load-dec-by (s .loads) k d Y m)
+  instruction-changed (LDZinc d) = defined-by (s .pointers) (isIn d Z) (load-inc-by (s .loads) k d Z m)
+  instruction-changed (LDZdec d) = defined-by (s .pointers) (isIn d Z) (load-dec-by (s .loads) k d Z m)
+  instruction-changed (LDDY d q) = load-by (s .loads) k d Y q m
+  instruction-changed (LDDZ d q) = load-by (s .loads) k d Z q m
+  instruction-changed (LDI d K) = refl
+  instruction-changed (LDS d a) = refl
+  instruction-changed LPM = refl
+  instruction-changed (LPMZ d) = refl
+  instruction-changed (LPMZinc d) = defined-by (s .pointers) (isIn d Z) refl
+  instruction-changed (LSL d) = refl
+  instruction-changed (LSR d) = refl
+  instruction-changed (MOV d r) = refl
+  instruction-changed (MOVW d r) = refl
+  instruction-changed (MUL d r) = refl
+  instruction-changed (MULS d r) = refl
+  instruction-changed (MULSU d r) = refl
+  instruction-changed (NEG d) = refl
+  instruction-changed NOP = refl
+  instruction-changed (OR d r) = refl
+  instruction-changed (ORI d K) = refl
+  instruction-changed (OUT A r) = refl
+  instruction-changed (POP d) = refl
+  instruction-changed (PUSH r) = refl
+  instruction-changed (RCALL o) = refl
+  instruction-changed RET = refl
+  instruction-changed RETI = refl
+  instruction-changed (RJMP o) = refl
+  instruction-changed (ROR d) = refl
+  instruction-changed (SBC d r) = refl
+  instruction-changed (SBCI d K) = refl
+  instruction-changed (SBI A b) = refl
+  instruction-changed (SBIC A b) = refl
+  instruction-changed (SBIS A b) = refl
+  instruction-changed (SBIW d K) = refl
+  instruction-changed (SBRC r b) = refl
+  instruction-changed (SBRS r b) = refl
+  instruction-changed SLEEP = refl
+  instruction-changed (STX r) = store-by (s .stores) k r X 0 m
+  instruction-changed (STXdec r) = defined-by (s .pointers) (isIn r X) (store-dec-by (s .stores) k r X m)
+  instruction-changed (STXinc r) = defined-by (s .pointers) (isIn r X) (store-inc-by (s .stores) k r X m)
+  instruction-changed (STYdec r) = defined-by (s .pointers) (isIn r Y) (store-dec-by (s .stores) k r Y m)
+  instruction-changed (STYinc r) = defined-by (s .pointers) (isIn r Y) (store-inc-by (s .stores) k r Y m)
+  instruction-changed (STZdec r) = defined-by (s .pointers) (isIn r Z) (store-dec-by (s .stores) k r Z m)
+  instruction-changed (STZinc r) = defined-by (s .pointers) (isIn r Z) (store-inc-by (s .stores) k r Z m)
+  instruction-changed (STDY q r) = store-by (s .stores) k r Y q m
+  instruction-changed (STDZ q r) = store-by (s .stores) k r Z q m
+  instruction-changed (STS a r) = refl
+  instruction-changed (SUB d r) = refl
+  instruction-changed (SUBI d K) = refl
+  instruction-changed (SWAP d) = refl
+  instruction-changed WDR = answer-by (s .outside) Watchdog (next k 1 1) m
+  instruction-changed UNDEF = refl

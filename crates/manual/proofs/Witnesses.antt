@@ -1,0 +1,58 @@
+-- The tables of specs/Witnesses.antt, computed.
+-- Assumes nothing.
+use mathlib.Core.Path.{refl}
+use Rattle.basis.specs.Bit.{bit, put}
+use Rattle.instruction.specs.Decode.{decodeOf, nopToAddOf, mulsuToFmulsuOf, cpseToAdcOf, andToMovOf, immediateOf, displacedOf, loadOf, storeOf, oneRegisterOf, controlOf, indirectOf, wordImmediateOf, portBitOf, portOf, relativeOf, branchOrBitOf, registerBitOf}
+use Rattle.memory.specs.Memory.{programWordOf, hasWordOf}
+use Rattle.patterns.specs.Pattern.{matched}
+use Rattle.cores.specs.State.{freshOf, withReg, withPc, withSp, withBusy, withInhibit, znvs, cznvs}
+use Rattle.cores.specs.Transfer.{reachOf, dataOf, setDataOf, pointedOf, wordIf}
+use Rattle.tick.specs.Tick as paper
+use Rattle.tick.specs.Tick.{stepped, ticked}
+use Rattle.manual_opcodes.specs.Opcodes.{arms, manualDecode}
+use Rattle.manual.specs.Notation.{zero8, row, bitTo, next, goes}
+use Rattle.manual.specs.Pointers.{load, loadInc, store}
+use Rattle.manual.specs.AdcToCpse.{adiw, break, bset}
+use Rattle.manual.specs.DecToLsr.{jmp}
+use Rattle.manual.specs.MovToRor.{pop, push}
+use Rattle.manual.specs.SbcToWdr.{sleep, wdr}
+use Rattle.manual.specs.Tick.{step, entersOrSteps, tickBy}
+use Rattle.manual.specs.Witnesses.{Witnesses, Agreements}
+
+pub witnesses : Witnesses
+unfolding bit put decodeOf nopToAddOf mulsuToFmulsuOf cpseToAdcOf andToMovOf immediateOf displacedOf loadOf storeOf oneRegisterOf controlOf indirectOf wordImmediateOf portBitOf portOf relativeOf branchOrBitOf registerBitOf programWordOf hasWordOf matched freshOf withReg withPc withBusy withInhibit znvs cznvs reachOf dataOf setDataOf pointedOf wordIf paper.entersOrSteps stepped ticked arms manualDecode zero8 row bitTo next goes load loadInc store adiw break bset jmp sleep wdr step entersOrSteps tickBy
+witnesses = (
+  record { by-manual = refl; by-port = refl },
+  (
+    record { by-manual = refl; by-port = refl },
+    (
+      record { by-manual = refl; by-port = refl },
+      (
+        record { by-manual = refl; by-port = refl },
+        (
+          record { by-manual = refl; by-port = refl },
+          (
+            record { by-manual = refl; by-port = refl },
+            (
+              record { by-manual = refl; by-port = refl },
+              (
+                record { by-manual = refl; by-port = refl },
+                (
+                  record { by-manual = refl; by-port = refl },
+                  (
+                    record { by-manual = refl; by-port = refl },
+                    record { by-manual = refl; by-port = refl },
+                  ),
+                ),
+              ),
+            ),
+          ),
+        ),
+      ),
+    ),
+  ),
+)
+
+pub agreements : Agreements
+unfolding bit decodeOf nopToAddOf mulsuToFmulsuOf cpseToAdcOf andToMovOf immediateOf displacedOf loadOf storeOf oneRegisterOf controlOf indirectOf wordImmediateOf portBitOf portOf relativeOf branchOrBitOf registerBitOf programWordOf hasWordOf matched freshOf withReg withPc withBusy withInhibit reachOf dataOf setDataOf paper.entersOrSteps stepped ticked arms manualDecode next step entersOrSteps tickBy withSp pop push
+agreements = (record { by-manual = refl; by-port = refl }, record { by-manual = refl; by-port = refl })

@@ -1,0 +1,84 @@
+-- The manual's notation: bits of a register or a result, its Boolean operators, its table of flags, signed numbers, and what every page ends in.
+use mathlib.Core.Bool.{Bool, not, _&&_, _||_}
+use Prim.Native.Nat.{ℕ, _+_, _*_, _/_, _%_, _^_, _-_}
+use lib.Dec.{eqb}
+use lib.IntN.{ℤ, pos, negsuc}
+use Rattle.basis.specs.Pick.{pick}
+use Rattle.basis.specs.Bit.{one, up}
+use Rattle.cores.specs.declared.Core.{Core}
+use Rattle.cores.specs.State.{withBusy, withPc}
+
+-- R ! 3 is the manual's R3
+infixl 60 _!_
+abbrev pub _!_ : ℕ → ℕ → Bool
+_!_ x i = eqb (x / 2 ^ i % 2) 1
+
+infixl 35 _•_
+abbrev pub _•_ : Bool → Bool → Bool
+_•_ a b = a && b
+
+infixl 30 _⊹_
+abbrev pub _⊹_ : Bool → Bool → Bool
+_⊹_ a b = a || b
+
+infixl 32 _⊕_
+abbrev pub _⊕_ : Bool → Bool → Bool
+_⊕_ a b = pick a (not b) b
+
+-- the bar over a bit
+abbrev pub bar : Bool → Bool
+bar a = not a
+
+-- every bit of a byte is 0: R̄7•R̄6•R̄5•R̄4•R̄3•R̄2•R̄1•R̄0; every bit of a word: R̄15•R̄14• .. •R̄0
+unfoldable pub zero8 : ℕ → Bool
+zero8 R = bar (R ! 7) • bar (R ! 6) • bar (R ! 5) • bar (R ! 4) • bar (R ! 3) • bar (R ! 2) • bar (R ! 1) • bar (R ! 0)
+
+abbrev pub zero16 : ℕ → Bool
+zero16 R = zero8 (R / 256) • zero8 (R % 256)
+
+-- ---- the table of flags
+-- an entry: `–`, or what the flag becomes
+pub data Mark : Type 0 where
+  kept : Mark
+  is : Bool → Mark
+
+abbrev pub marked : Mark → Bool → ℕ
+marked kept old = one old
+marked (is b) old = one b
+
+-- SREG s by the table's row, in its order
+unfoldable pub row : ℕ → Mark → Mark → Mark → Mark → Mark → Mark → Mark → Mark → ℕ
+row s I T H S «V» N Z C =
+    marked I (s ! 7) * 128 + marked T (s ! 6) * 64 + marked H (s ! 5) * 32 + marked S (s ! 4) * 16 + marked «V» (s ! 3) * 8 + marked N (s ! 2) * 4 + marked Z (s ! 1) * 2 + marked C (s ! 0)
+
+-- bit b of a byte becomes t, its other bits stay
+unfoldable pub bitTo : ℕ → ℕ → Bool → ℕ
+bitTo x b t =
+    let at : ℕ → Mark = λ i. pick (eqb i b) (is t) kept in
+    row x (at 7) (at 6) (at 5) (at 4) (at 3) (at 2) (at 1) (at 0)
+
+-- C, to be added or subtracted
+abbrev pub carry : Core → ℕ
+carry k = one (k .sreg ! 0)
+
+-- ---- signed numbers
+abbrev pub unsigned : ℕ → ℤ
+unsigned x = pos x
+
+-- a byte in two's complement
+abbrev pub signed : ℕ → ℤ
+signed x = pick (x ! 7) (negsuc (255 - x)) (pos x)
+
+-- 16 bits in two's complement
+abbrev pub bits16 : ℤ → ℕ
+bits16 (pos n) = n % 65536
+bits16 (negsuc n) = 65535 - n % 65536
+
+-- ---- where a page ends
+-- PC ← PC + n for an instruction of n words, in c cycles: the tick that executes it and c - 1 that wait
+unfoldable pub next : Core → ℕ → ℕ → Core
+next k n c = withBusy (withPc k (up (k .pc) n)) (c - 1)
+
+-- PC ← t, in c cycles
+unfoldable pub goes : Core → ℕ → ℕ → Core
+goes k t c = withBusy (withPc k t) (c - 1)

@@ -1,0 +1,2 @@
+-- `Opcodes`: the manual's opcodes in its order, and what is promised of them.
+pub mod Opcodes
