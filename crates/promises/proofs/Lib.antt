@@ -1,5 +1,5 @@
 -- Demand 3. `Lockstep`, `Handled`, `Arrival`: for any machine. `Instructions`, `Ticks`, `Stack`, `TickLaws`: the laws of `tickOf`. `Interrupts`: the demand.
--- `OneHandler`, `Stamps`: the worked runs.
+-- `OneHandler`, `Stamps`: the worked runs. `BenchSheet`: 01's thirteen lines.
 pub mod Logic
 pub mod Lockstep
 pub mod Handled
@@ -11,3 +11,4 @@ pub mod TickLaws
 pub mod Interrupts
 pub mod OneHandler
 pub mod Stamps
+pub mod BenchSheet
