@@ -2,11 +2,11 @@
 use mathlib.Core.Path.{_≡_}
 use mathlib.Core.Bool.{Bool}
 use mathlib.Core.List.{List, [], _∷_, _++_}
-use Prim.Native.Nat.{ℕ, _+_, _*_, _/_, _%_, _≤_}
+use Prim.Native.Nat.{ℕ, _+_, _*_, _-_, _/_, _%_, _≤_}
 use Prim.Native.Char.{code}
 use Prim.Native.String.{String, [] as end, _∷_ as then}
 use lib.Dec.{ltb, leb}
-use lib.ListN.{getD, take, length}
+use lib.ListN.{getD, take, length, replicate}
 use Rattle.basis.specs.Pick.{pick}
 use Rattle.cores.specs.declared.Core.{Core}
 use Rattle.tick.specs.declared.Answer.{Answer}
@@ -73,15 +73,10 @@ lineOf number before answer k =
     decimal number ++ space ++ hex4 before ++ space ++ wordOf answer ++ space ++ hex4 (k .pc) ++ space
     ++ ((48 + k .busy % 10) ∷ []) ++ space ++ hex2 (k .sreg) ++ space ++ hex4 (k .sp) ++ (10 ∷ [])
 
--- ---- the code's line: its text
-abbrev pub textOf : Line → List ℕ
-textOf l = take (l .len) (l .bytes)
+-- ---- the code's line: the one that holds a text has zeros behind it
+abbrev pub holding : List ℕ → Line
+holding t = record { bytes = t ++ replicate (40 - length t) 0; len = length t }
 
--- the second line is the first with more behind it, as far as that fits
+-- from a line that holds a text, the one that holds it with more behind it, as far as that fits
 pub record Puts (l m : Line) (more : List ℕ) : Type 0 where
-  pub text : textOf m ≡ take 40 (textOf l ++ more)
-
--- the line has this text, and no more bytes than it holds
-pub record Says (l : Line) (t : List ℕ) : Type 0 where
-  pub text : textOf l ≡ t
-  pub fits : l .len ≤ 40
+  pub holds : (t : List ℕ) → length t ≤ 40 → l ≡ holding t → m ≡ holding (take 40 (t ++ more))

@@ -6,7 +6,7 @@ ghost use mathlib.Core.List.{[], _∷_};
 ghost use lib.ListN.{length};
 ghost use Prim.Native.Nat.{_+_, _%_, _≤_};
 ghost use Rattle.basis.specs.Pick.{pick};
-ghost use Rattle.tracing.specs.Trace.{textOf, Puts, hexDigit, hex2, hex4, decimal, wordOf, lineOf, Says};
+ghost use Rattle.tracing.specs.Trace.{holding, Puts, hexDigit, hex2, hex4, decimal, wordOf, lineOf};
 
 pub struct Line {
     pub bytes: [u8; 40],
@@ -15,7 +15,7 @@ pub struct Line {
 
 impl Line {
     fn empty() -> Line
-        ensures { λ r. ⌜ textOf r ≡ [] ⌝ }
+        ensures { λ r. ⌜ r ≡ holding [] ⌝ }
     {
         Line {
             bytes: [0u8; 40],
@@ -108,23 +108,10 @@ fn hex_digit(x: u8) -> u8
     if d < 10 { 48 + d } else { 55 + d }
 }
 
-// The line of a tick.
+// The line of a tick: its number, PC before, the answer's word, PC after, busy, SREG, SP.
 pub fn line_of(number: u16, before: u16, answer: Answer, core: Core) -> Line
-    ensures { λ r. ⌜ Says r (lineOf number before answer core) ⌝ }
-{
-    let line = fields(number, before, answer, core);
-    let bytes = line.bytes;
-    let len = line.len;
-    if len < 40 {
-        Line { bytes, len }
-    } else {
-        Line { bytes, len: 40 }
-    }
-}
-
-// Its number, PC before, the answer's word, PC after, busy, SREG, SP.
-fn fields(number: u16, before: u16, answer: Answer, core: Core) -> Line
-    ensures { λ r. ⌜ textOf r ≡ lineOf number before answer core ⌝ }
+    ensures { λ r. ⌜ r ≡ holding (lineOf number before answer core) ⌝ }
+    ensures { λ r. ⌜ r .len ≤ 40 ⌝ }
 {
     let line = Line::empty()
         .put_decimal(number)

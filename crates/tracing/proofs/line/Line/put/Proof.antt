@@ -11,5 +11,5 @@ put-spec =
     (tie.spec
     (λ c. search needs)
     (λ c. search needs)
-    (λ c. let a = c .before .before .args in put-in (a .self) (search needs) (a .b) (c .if1 .taken))
-    (λ c. let a = c .before .before .args in put-past (a .self) (search needs) (a .b) (c .if1 .left)))
+    (λ c. let a = c .before .before .args in put-in (a .self) (a .b) (c .if1 .taken))
+    (λ c. let a = c .before .before .args in put-past (a .self) (a .b) (c .if1 .left)))

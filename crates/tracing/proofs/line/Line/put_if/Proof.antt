@@ -11,4 +11,4 @@ put-if-spec =
     (tie.spec
     (λ c κs. search needs)
     (λ c. rw (c .before .if1 .taken) (c .put .ensures))
-    (λ c. let a = c .before .before .args in rw (c .if1 .left) (put-none (a .self) (search needs))))
+    (λ c. let a = c .before .before .args in rw (c .if1 .left) (put-none (a .self))))

@@ -24,7 +24,7 @@ put-text-spec =
     (tie.spec
     Inv-loop
     μ-loop
-    (λ c. let a = c .before .before .args in (search needs, put-none (a .self) (search needs)))
+    (λ c. let a = c .before .before .args in (search needs, put-none (a .self)))
     (λ c. search needs)
     (λ c κs. search needs)
     (λ c. search needs)
