@@ -1,7 +1,7 @@
 -- The registers that an instruction does not name stay, and one of the register-only list leaves all but registers, SREG and busy.
 -- Assumes nothing.
 use mathlib.Core.Path.{_≡_, refl, ap, subst, _∙_}
-use mathlib.Core.Bool.{Bool, Bool·beq}
+use mathlib.Core.Bool.{Bool, true, false, Bool·beq}
 use mathlib.Core.List.{List, [], _∷_}
 use Prim.Native.Nat.{ℕ, _+_}
 use lib.Dec.{eqb}
@@ -11,12 +11,13 @@ use Rattle.basis.specs.Bit.{one, up}
 use Rattle.alu.specs.Alu.{signedOf}
 use Rattle.instruction.specs.declared.Instruction.{Instruction}
 use Rattle.instruction.specs.declared.Instruction.the-variants.{ADC, ADD, ADIW, AND, ANDI, ASR, BCLR, BLD, BRBC, BRBS, BREAK, BSET, BST, CALL, CBI, COM, CP, CPC, CPI, CPSE, DEC, EOR, FMUL, FMULS, FMULSU, ICALL, IJMP, IN, INC, JMP, LDX, LDXinc, LDXdec, LDYinc, LDYdec, LDZinc, LDZdec, LDDY, LDDZ, LDI, LDS, LPM, LPMZ, LPMZinc, LSL, LSR, MOV, MOVW, MUL, MULS, MULSU, NEG, NOP, OR, ORI, OUT, POP, PUSH, RCALL, RET, RETI, RJMP, ROR, SBC, SBCI, SBI, SBIC, SBIS, SBIW, SBRC, SBRS, SLEEP, STX, STXdec, STXinc, STYdec, STYinc, STZdec, STZinc, STDY, STDZ, STS, SUB, SUBI, SWAP, WDR, UNDEF}
+use Rattle.instruction.specs.Code.{isRegisterOnly}
 use Rattle.cores.specs.declared.Core.{Core}
 use Rattle.cores.specs.State.{Out, reg, flag, withReg, withPc, withSp, withBusy, withInhibit, withService}
 use Rattle.cores.specs.Flow.{brbxOf, skipped}
 use Rattle.cores.specs.Transfer.{setDataOf, wordIf}
 use Rattle.execute.specs.Execute.{executed, ran}
-use Rattle.invariants.specs.Instructions.{Writes, registerOnly, other, writes, Unnamed, restOf, OtherRegistersKept, RegisterOnlyKeepsTheRest}
+use Rattle.invariants.specs.Instructions.{Unnamed, restOf, OtherRegistersKept, RegisterOnlyKeepsTheRest}
 use Rattle.invariants.proofs.Choice.{either}
 
 -- ---- one, two or three registers written, seen at another
@@ -145,11 +146,11 @@ other-registers-kept decode WDR k p m i u = refl
 other-registers-kept decode UNDEF k p m i u = refl
 
 -- ---- the rest, of the register-only list
-abbrev Rest : Writes → (ℕ → ℕ → Instruction) → Instruction → Core → List ℕ → List ℕ → Type 0
-Rest (registerOnly l) decode op k p m = restOf (executed decode k op p m) ≡ restOf (ran k m)
-Rest (other l) decode op k p m = Unit {0}
+abbrev Rest : Bool → (ℕ → ℕ → Instruction) → Instruction → Core → List ℕ → List ℕ → Type 0
+Rest true decode op k p m = restOf (executed decode k op p m) ≡ restOf (ran k m)
+Rest false decode op k p m = Unit {0}
 
-rest : (decode : ℕ → ℕ → Instruction) (op : Instruction) (k : Core) (p m : List ℕ) → Rest (writes op) decode op k p m
+rest : (decode : ℕ → ℕ → Instruction) (op : Instruction) (k : Core) (p m : List ℕ) → Rest (isRegisterOnly op) decode op k p m
 unfolding withReg withBusy
 rest decode (ADC d r) k p m = refl
 rest decode (ADD d r) k p m = refl
@@ -240,4 +241,4 @@ rest decode WDR k p m = tt
 rest decode UNDEF k p m = tt
 
 pub register-only-keeps-the-rest : RegisterOnlyKeepsTheRest
-register-only-keeps-the-rest decode op k p m l e = subst (λ w. Rest w decode op k p m) e (rest decode op k p m)
+register-only-keeps-the-rest decode op k p m e = subst (λ w. Rest w decode op k p m) e (rest decode op k p m)

@@ -1,115 +1,106 @@
 -- What every instruction keeps: ranges, the registers that it does not name, and, of 01's register-only list, all else.
 use mathlib.Core.Path.{_≡_}
-use mathlib.Core.Bool.{Bool}
+use mathlib.Core.Bool.{Bool, true}
 use mathlib.Core.List.{List, [], _∷_}
 use Prim.Native.Nat.{ℕ, _+_, _≤_, _<_}
 use lib.ListN.{length}
 use Rattle.instruction.specs.declared.Instruction.{Instruction}
 use Rattle.instruction.specs.declared.Instruction.the-variants.{ADC, ADD, ADIW, AND, ANDI, ASR, BCLR, BLD, BRBC, BRBS, BREAK, BSET, BST, CALL, CBI, COM, CP, CPC, CPI, CPSE, DEC, EOR, FMUL, FMULS, FMULSU, ICALL, IJMP, IN, INC, JMP, LDX, LDXinc, LDXdec, LDYinc, LDYdec, LDZinc, LDZdec, LDDY, LDDZ, LDI, LDS, LPM, LPMZ, LPMZinc, LSL, LSR, MOV, MOVW, MUL, MULS, MULSU, NEG, NOP, OR, ORI, OUT, POP, PUSH, RCALL, RET, RETI, RJMP, ROR, SBC, SBCI, SBI, SBIC, SBIS, SBIW, SBRC, SBRS, SLEEP, STX, STXdec, STXinc, STYdec, STYinc, STZdec, STZinc, STDY, STDZ, STS, SUB, SUBI, SWAP, WDR, UNDEF}
+use Rattle.instruction.specs.Code.{isRegisterOnly}
 use Rattle.cores.specs.declared.Core.{Core}
 use Rattle.cores.specs.State.{reg, Sound, Bytes}
 use Rattle.execute.specs.declared.Done.{Done}
 use Rattle.execute.specs.Execute.{Executed, executed, ran}
 
--- ---- the registers that an instruction writes
-pub data Writes : Type 0 where
-  registerOnly : List ℕ → Writes  -- an instruction of 01's register-only list
-  other : List ℕ → Writes  -- any other
-
--- "Register-only list: ADC ADD ADIW AND ANDI ASR BCLR BLD BSET BST COM CP CPC CPI DEC EOR FMUL FMULS FMULSU INC LDI LSR MOV MOVW MUL MULS MULSU
--- NEG NOP OR ORI ROR SBC SBCI SBIW SUB SUBI SWAP." A word is written to register d and the next; a product to R1:R0; a stepped pointer to X, Y or Z
-abbrev pub writes : Instruction → Writes
-writes (ADC d r) = registerOnly (d ∷ [])
-writes (ADD d r) = registerOnly (d ∷ [])
-writes (ADIW d K) = registerOnly (d ∷ (d + 1) ∷ [])
-writes (AND d r) = registerOnly (d ∷ [])
-writes (ANDI d K) = registerOnly (d ∷ [])
-writes (ASR d) = registerOnly (d ∷ [])
-writes (BCLR s) = registerOnly []
-writes (BLD d b) = registerOnly (d ∷ [])
-writes (BRBC s t) = other []
-writes (BRBS s t) = other []
-writes BREAK = other []
-writes (BSET s) = registerOnly []
-writes (BST d b) = registerOnly []
-writes (CALL t) = other []
-writes (CBI A b) = other []
-writes (COM d) = registerOnly (d ∷ [])
-writes (CP d r) = registerOnly []
-writes (CPC d r) = registerOnly []
-writes (CPI d K) = registerOnly []
-writes (CPSE d r) = other []
-writes (DEC d) = registerOnly (d ∷ [])
-writes (EOR d r) = registerOnly (d ∷ [])
-writes (FMUL d r) = registerOnly (0 ∷ 1 ∷ [])
-writes (FMULS d r) = registerOnly (0 ∷ 1 ∷ [])
-writes (FMULSU d r) = registerOnly (0 ∷ 1 ∷ [])
-writes ICALL = other []
-writes IJMP = other []
-writes (IN d A) = other (d ∷ [])
-writes (INC d) = registerOnly (d ∷ [])
-writes (JMP t) = other []
-writes (LDX d) = other (d ∷ [])
-writes (LDXinc d) = other (d ∷ 26 ∷ 27 ∷ [])
-writes (LDXdec d) = other (d ∷ 26 ∷ 27 ∷ [])
-writes (LDYinc d) = other (d ∷ 28 ∷ 29 ∷ [])
-writes (LDYdec d) = other (d ∷ 28 ∷ 29 ∷ [])
-writes (LDZinc d) = other (d ∷ 30 ∷ 31 ∷ [])
-writes (LDZdec d) = other (d ∷ 30 ∷ 31 ∷ [])
-writes (LDDY d q) = other (d ∷ [])
-writes (LDDZ d q) = other (d ∷ [])
-writes (LDI d K) = registerOnly (d ∷ [])
-writes (LDS d at) = other (d ∷ [])
-writes LPM = other (0 ∷ [])
-writes (LPMZ d) = other (d ∷ [])
-writes (LPMZinc d) = other (d ∷ 30 ∷ 31 ∷ [])
-writes (LSL d) = other (d ∷ [])
-writes (LSR d) = registerOnly (d ∷ [])
-writes (MOV d r) = registerOnly (d ∷ [])
-writes (MOVW d r) = registerOnly (d ∷ (d + 1) ∷ [])
-writes (MUL d r) = registerOnly (0 ∷ 1 ∷ [])
-writes (MULS d r) = registerOnly (0 ∷ 1 ∷ [])
-writes (MULSU d r) = registerOnly (0 ∷ 1 ∷ [])
-writes (NEG d) = registerOnly (d ∷ [])
-writes NOP = registerOnly []
-writes (OR d r) = registerOnly (d ∷ [])
-writes (ORI d K) = registerOnly (d ∷ [])
-writes (OUT A r) = other []
-writes (POP d) = other (d ∷ [])
-writes (PUSH d) = other []
-writes (RCALL t) = other []
-writes RET = other []
-writes RETI = other []
-writes (RJMP t) = other []
-writes (ROR d) = registerOnly (d ∷ [])
-writes (SBC d r) = registerOnly (d ∷ [])
-writes (SBCI d K) = registerOnly (d ∷ [])
-writes (SBI A b) = other []
-writes (SBIC A b) = other []
-writes (SBIS A b) = other []
-writes (SBIW d K) = registerOnly (d ∷ (d + 1) ∷ [])
-writes (SBRC r b) = other []
-writes (SBRS r b) = other []
-writes SLEEP = other []
-writes (STX r) = other []
-writes (STXdec r) = other (26 ∷ 27 ∷ [])
-writes (STXinc r) = other (26 ∷ 27 ∷ [])
-writes (STYdec r) = other (28 ∷ 29 ∷ [])
-writes (STYinc r) = other (28 ∷ 29 ∷ [])
-writes (STZdec r) = other (30 ∷ 31 ∷ [])
-writes (STZinc r) = other (30 ∷ 31 ∷ [])
-writes (STDY q r) = other []
-writes (STDZ q r) = other []
-writes (STS at r) = other []
-writes (SUB d r) = registerOnly (d ∷ [])
-writes (SUBI d K) = registerOnly (d ∷ [])
-writes (SWAP d) = registerOnly (d ∷ [])
-writes WDR = other []
-writes UNDEF = other []
-
-abbrev pub namedBy : Writes → List ℕ
-namedBy (registerOnly l) = l
-namedBy (other l) = l
+-- ---- the registers that an instruction writes: a word goes to register d and the next, a product to R1:R0, a stepped pointer to X, Y or Z
+abbrev pub writes : Instruction → List ℕ
+writes (ADC d r) = d ∷ []
+writes (ADD d r) = d ∷ []
+writes (ADIW d K) = d ∷ (d + 1) ∷ []
+writes (AND d r) = d ∷ []
+writes (ANDI d K) = d ∷ []
+writes (ASR d) = d ∷ []
+writes (BCLR s) = []
+writes (BLD d b) = d ∷ []
+writes (BRBC s t) = []
+writes (BRBS s t) = []
+writes BREAK = []
+writes (BSET s) = []
+writes (BST d b) = []
+writes (CALL t) = []
+writes (CBI A b) = []
+writes (COM d) = d ∷ []
+writes (CP d r) = []
+writes (CPC d r) = []
+writes (CPI d K) = []
+writes (CPSE d r) = []
+writes (DEC d) = d ∷ []
+writes (EOR d r) = d ∷ []
+writes (FMUL d r) = 0 ∷ 1 ∷ []
+writes (FMULS d r) = 0 ∷ 1 ∷ []
+writes (FMULSU d r) = 0 ∷ 1 ∷ []
+writes ICALL = []
+writes IJMP = []
+writes (IN d A) = d ∷ []
+writes (INC d) = d ∷ []
+writes (JMP t) = []
+writes (LDX d) = d ∷ []
+writes (LDXinc d) = d ∷ 26 ∷ 27 ∷ []
+writes (LDXdec d) = d ∷ 26 ∷ 27 ∷ []
+writes (LDYinc d) = d ∷ 28 ∷ 29 ∷ []
+writes (LDYdec d) = d ∷ 28 ∷ 29 ∷ []
+writes (LDZinc d) = d ∷ 30 ∷ 31 ∷ []
+writes (LDZdec d) = d ∷ 30 ∷ 31 ∷ []
+writes (LDDY d q) = d ∷ []
+writes (LDDZ d q) = d ∷ []
+writes (LDI d K) = d ∷ []
+writes (LDS d at) = d ∷ []
+writes LPM = 0 ∷ []
+writes (LPMZ d) = d ∷ []
+writes (LPMZinc d) = d ∷ 30 ∷ 31 ∷ []
+writes (LSL d) = d ∷ []
+writes (LSR d) = d ∷ []
+writes (MOV d r) = d ∷ []
+writes (MOVW d r) = d ∷ (d + 1) ∷ []
+writes (MUL d r) = 0 ∷ 1 ∷ []
+writes (MULS d r) = 0 ∷ 1 ∷ []
+writes (MULSU d r) = 0 ∷ 1 ∷ []
+writes (NEG d) = d ∷ []
+writes NOP = []
+writes (OR d r) = d ∷ []
+writes (ORI d K) = d ∷ []
+writes (OUT A r) = []
+writes (POP d) = d ∷ []
+writes (PUSH d) = []
+writes (RCALL t) = []
+writes RET = []
+writes RETI = []
+writes (RJMP t) = []
+writes (ROR d) = d ∷ []
+writes (SBC d r) = d ∷ []
+writes (SBCI d K) = d ∷ []
+writes (SBI A b) = []
+writes (SBIC A b) = []
+writes (SBIS A b) = []
+writes (SBIW d K) = d ∷ (d + 1) ∷ []
+writes (SBRC r b) = []
+writes (SBRS r b) = []
+writes SLEEP = []
+writes (STX r) = []
+writes (STXdec r) = 26 ∷ 27 ∷ []
+writes (STXinc r) = 26 ∷ 27 ∷ []
+writes (STYdec r) = 28 ∷ 29 ∷ []
+writes (STYinc r) = 28 ∷ 29 ∷ []
+writes (STZdec r) = 30 ∷ 31 ∷ []
+writes (STZinc r) = 30 ∷ 31 ∷ []
+writes (STDY q r) = []
+writes (STDZ q r) = []
+writes (STS at r) = []
+writes (SUB d r) = d ∷ []
+writes (SUBI d K) = d ∷ []
+writes (SWAP d) = d ∷ []
+writes WDR = []
+writes UNDEF = []
 
 -- i is none of them
 abbrev pub Unnamed : ℕ → List ℕ → Type 0
@@ -146,11 +137,11 @@ InstructionsWaitAtMost3 =
 -- a register that it does not name is as it was
 abbrev pub OtherRegistersKept : Type 0
 OtherRegistersKept =
-    (decode : ℕ → ℕ → Instruction) (op : Instruction) (k : Core) (p m : List ℕ) (i : ℕ) → Unnamed i (namedBy (writes op))
+    (decode : ℕ → ℕ → Instruction) (op : Instruction) (k : Core) (p m : List ℕ) (i : ℕ) → Unnamed i (writes op)
     → reg (executed decode k op p m .core) i ≡ reg k i
 
 -- one of the register-only list runs and changes nothing but registers, SREG and busy
 abbrev pub RegisterOnlyKeepsTheRest : Type 0
 RegisterOnlyKeepsTheRest =
-    (decode : ℕ → ℕ → Instruction) (op : Instruction) (k : Core) (p m l : List ℕ) → writes op ≡ registerOnly l
+    (decode : ℕ → ℕ → Instruction) (op : Instruction) (k : Core) (p m : List ℕ) → isRegisterOnly op ≡ true
     → restOf (executed decode k op p m) ≡ restOf (ran k m)

@@ -6,7 +6,7 @@ use lib.Dec.{eqb}
 use Rattle.basis.specs.Pick.{pick}
 use Rattle.instruction.specs.declared.Instruction.{Instruction}
 use Rattle.instruction.specs.declared.Instruction.the-variants.{ADIW, BREAK, BSET, CALL, JMP, LDX, LDXinc, LDXdec, LDYinc, LDYdec, LDZinc, LDZdec, LDDY, LDDZ, LPMZinc, SLEEP, STX, STXdec, STXinc, STYdec, STYinc, STZdec, STZinc, STDY, STDZ, WDR, UNDEF}
-use Rattle.instruction.proofs.Tests.{code}
+use Rattle.instruction.specs.Code.{code, oneOf}
 use Rattle.cores.specs.declared.Core.{Core}
 use Rattle.cores.specs.State.{reg, withSreg, withBusy, withPc, withInhibit}
 use Rattle.tick.specs.declared.Answer.the-variants.{Ran}
@@ -15,11 +15,6 @@ use Rattle.manual.specs.Switches.{Switches, Says, undefined, sleeps, say
 use Rattle.manual.specs.Pointers.{X, Y, Z, isIn}
 
 -- ---- at which instructions
--- i is one of these, whatever their fields
-abbrev pub oneOf : List Instruction → Instruction → Bool
-oneOf [] i = false
-oneOf (j ∷ l) i = eqb (code i .0) (code j .0) || oneOf l i
-
 -- an instruction's first field: its register, bit or target
 abbrev pub field : Instruction → ℕ
 field i = code i .1

@@ -6,9 +6,9 @@ use mathlib.Core.List.{List}
 use Prim.Native.Nat.{ℕ, zero, suc, _≤_}
 use native.Mathlib.Nat.{not-suc-le-zero, le-of-suc-le-suc}
 use Rattle.cores.specs.declared.Core.{Core}
-use Rattle.tick.specs.Tick.{Tick, tickOf}
+use Rattle.tick.specs.Tick.{Tick, refuses, stops, tickOf}
 use Rattle.tick.specs.declared.Offer.{Offer}
-use Rattle.run.specs.Run.{Run, refuses, stops, after, runOf, SameUnderLargerBudget}
+use Rattle.run.specs.Run.{Run, after, runOf, SameUnderLargerBudget}
 use Rattle.run.proofs.Unroll.{step}
 
 -- two rests that agree unless the first is out of budget give runs that agree unless the first is

@@ -7,9 +7,9 @@ use Prim.Native.Nat.{ℕ, suc, _+_, _-_, _<_, _≤_}
 use native.Mathlib.Nat.{add-zero, zero-add, sub-zero, add-assoc}
 use native.Mathlib.Omega.{arith}
 use Rattle.cores.specs.declared.Core.{Core}
-use Rattle.tick.specs.Tick.{Tick, tickOf}
+use Rattle.tick.specs.Tick.{Tick, refuses, stops, tickOf}
 use Rattle.tick.specs.declared.Offer.{Offer}
-use Rattle.run.specs.Run.{Run, refuses, stops, spent, ended, after, runOf}
+use Rattle.run.specs.Run.{Run, spent, ended, after, runOf}
 
 -- what a tick makes of the rest of its run
 abbrev pub step : Bool → Bool → Tick → Run → Run

@@ -1,38 +1,13 @@
 -- 01, 'Runs': "A run takes one held offer and a budget. It stops at the budget, break, end or a refusal, answers 24, 22, 23 or that refusal, and reports
 -- the number of ticks done; break and end count, a refused tick doesn't. Core and data stand as after the last done tick."
 use mathlib.Core.Path.{_≡_}
-use mathlib.Core.Bool.{Bool, true, false}
+use mathlib.Core.Bool.{true, false}
 use mathlib.Core.List.{List}
 use Prim.Native.Nat.{ℕ, zero, suc, _+_, _≤_}
 use Rattle.cores.specs.declared.Core.{Core}
-use Rattle.tick.specs.Tick.{Tick, numberOf, tickOf}
+use Rattle.tick.specs.Tick.{Tick, numberOf, refuses, stops, tickOf}
 use Rattle.tick.specs.declared.Offer.{Offer}
-use Rattle.tick.specs.declared.Answer.{Answer}
-use Rattle.tick.specs.declared.Answer.the-variants.{Refused, Waited, Entered, Ran, Sleep, Watchdog, Undefined, Break, End}
 use Rattle.run.specs.declared.Ran as code
-
--- ---- the answers that end a run
-abbrev pub refuses : Answer → Bool
-refuses (Refused n) = true
-refuses Waited = false
-refuses Entered = false
-refuses Ran = false
-refuses Sleep = false
-refuses Watchdog = false
-refuses Undefined = false
-refuses Break = false
-refuses End = false
-
-abbrev pub stops : Answer → Bool
-stops (Refused n) = false
-stops Waited = false
-stops Entered = false
-stops Ran = false
-stops Sleep = false
-stops Watchdog = false
-stops Undefined = false
-stops Break = true
-stops End = true
 
 -- what a run gives: an answer's number, the count of ticks done, a core and the bytes of data
 pub record Run : Type 0 where

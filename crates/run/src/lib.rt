@@ -3,8 +3,8 @@ use cores::Core;
 use tick::Answer;
 use tick::Offer;
 ghost use mathlib.Core.Path.{_≡_};
-ghost use Rattle.tick.specs.Tick.{numberOf};
-ghost use Rattle.run.specs.Run.{refuses, stops, runOf, Runs};
+ghost use Rattle.tick.specs.Tick.{numberOf, refuses, stops};
+ghost use Rattle.run.specs.Run.{runOf, Runs};
 
 // The answer is 24, 22, 23 or the refusal, by 01's numbers; `ticks` counts the ticks done.
 pub struct Ran {

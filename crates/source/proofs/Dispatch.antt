@@ -13,10 +13,9 @@ use Rattle.memory.specs.Memory.{hasOf}
 use Rattle.cores.specs.State.{Sound, Bytes, out, word}
 use Rattle.execute.specs.Needs.{needs}
 use Rattle.execute.specs.Execute.{Executed, executed}
-use Rattle.tick.specs.Tick.{answerOf}
+use Rattle.tick.specs.Tick.{answerOf, stops}
 use Rattle.source.specs.Monad.{Self, Outcome, ok, panic}
 use Rattle.source.specs.Tick.{dispatch}
-use Rattle.source.specs.Statement.{stops}
 use Rattle.source.proofs.Steps.{withOut, after-pick}
 use Rattle.source.proofs.Needs.{met}
 use Rattle.source.proofs.Arithmetic.{adc-is, add-is, adiw-is, and-is, andi-is, com-is, dec-is, eor-is, inc-is, neg-is, or-is, ori-is, sbiw-is}

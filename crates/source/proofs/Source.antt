@@ -16,9 +16,9 @@ use Rattle.tick.specs.declared.Offer.the-variants.{Vector, Nothing}
 use Rattle.tick.specs.declared.Answer.the-variants.{Waited, Entered, End}
 use Rattle.execute.specs.Needs.{Needs, refusal, pushNeeds, needs, fetched, withFetch}
 use Rattle.execute.specs.Execute.{executed}
-use Rattle.tick.specs.Tick.{Tick, numberOf, gives, decided, due, entry, executedTick, stepped, entersOrSteps, ticked, tickOf, inPlace}
+use Rattle.tick.specs.Tick.{Tick, numberOf, refuses, gives, decided, due, entry, executedTick, stepped, entersOrSteps, ticked, tickOf, inPlace}
 use Rattle.source.specs.Monad.{Self, panic}
-use Rattle.source.specs.Statement.{refuses, Matches, panics, selfOf, EqualsTheRust, RefusedExactlyWhereItPanics, CodeEqualsTheRust, InPlaceEqualsTheRust}
+use Rattle.source.specs.Statement.{Matches, panics, selfOf, EqualsTheRust, RefusedExactlyWhereItPanics, CodeEqualsTheRust, InPlaceEqualsTheRust}
 use Rattle.source.proofs.Needs.{to-4}
 use Rattle.source.proofs.Program.{opAt}
 use Rattle.source.proofs.Tick.{shown, executed-calm, tick-is}

@@ -21,11 +21,10 @@ use Rattle.tick.specs.declared.Offer.the-variants.{Vector, Nothing}
 use Rattle.tick.specs.declared.Answer.the-variants.{Entered, End}
 use Rattle.execute.specs.Needs.{Needs, refusal, pushNeeds, needs, fetched, withFetch}
 use Rattle.execute.specs.Execute.{executed}
-use Rattle.tick.specs.Tick.{Tick, answerOf, gives, decided, due, entry, executedTick, stepped, entersOrSteps, ticked, tickOf}
+use Rattle.tick.specs.Tick.{Tick, answerOf, refuses, stops, gives, decided, due, entry, executedTick, stepped, entersOrSteps, ticked, tickOf}
 use Rattle.source.specs.Monad.{Self, Outcome, ok, panic, after, withCore, return}
 use Rattle.source.specs.Registers.{ds·write}
 use Rattle.source.specs.Tick.{service-pending, entered-by, handle-interrupts, fetch, execute, tick}
-use Rattle.source.specs.Statement.{refuses, stops}
 use Rattle.source.proofs.Steps.{withOut, after-pick, and-pick, and-assoc}
 use Rattle.source.proofs.Registers.{flag-ok}
 use Rattle.source.proofs.Stack.{push-tests, less-two, high-byte}

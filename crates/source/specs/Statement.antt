@@ -11,34 +11,10 @@ use Rattle.cores.specs.declared.Core.{Core}
 use Rattle.cores.specs.State.{Sound, Bytes}
 use Rattle.tick.specs.declared.Offer.{Offer}
 use Rattle.tick.specs.declared.Answer.{Answer}
-use Rattle.tick.specs.declared.Answer.the-variants.{Refused, Waited, Entered, Ran, Sleep, Watchdog, Undefined, Break, End}
 use Rattle.tick.specs.declared.Ticked.{Ticked}
-use Rattle.tick.specs.Tick.{Tick, gives, numberOf, tickOf, Ticks, inPlace}
+use Rattle.tick.specs.Tick.{Tick, gives, numberOf, refuses, stops, tickOf, Ticks, inPlace}
 use Rattle.source.specs.Monad.{Self, Outcome, panic, ok}
 use Rattle.source.specs.Tick.{tick}
-
-abbrev pub refuses : Answer → Bool
-refuses (Refused n) = true
-refuses Waited = false
-refuses Entered = false
-refuses Ran = false
-refuses Sleep = false
-refuses Watchdog = false
-refuses Undefined = false
-refuses Break = false
-refuses End = false
-
--- "22 23 break, end: the Rust's `false`"
-abbrev pub stops : Answer → Bool
-stops (Refused n) = false
-stops Waited = false
-stops Entered = false
-stops Ran = false
-stops Sleep = false
-stops Watchdog = false
-stops Undefined = false
-stops Break = true
-stops End = true
 
 -- the Rust returned b and left u
 pub record Agrees (t : Tick) (b : Bool) (u : Self) : Type 0 where

@@ -34,6 +34,29 @@ numberOf Undefined = 21
 numberOf Break = 22
 numberOf End = 23
 
+abbrev pub refuses : Answer → Bool
+refuses (Refused n) = true
+refuses Waited = false
+refuses Entered = false
+refuses Ran = false
+refuses Sleep = false
+refuses Watchdog = false
+refuses Undefined = false
+refuses Break = false
+refuses End = false
+
+-- "22 23 break, end: the Rust's `false`"
+abbrev pub stops : Answer → Bool
+stops (Refused n) = false
+stops Waited = false
+stops Entered = false
+stops Ran = false
+stops Sleep = false
+stops Watchdog = false
+stops Undefined = false
+stops Break = true
+stops End = true
+
 abbrev pub answerOf : Done → Answer
 answerOf done.Ran = Ran
 answerOf done.Sleep = Sleep

@@ -4,8 +4,8 @@ use mathlib.Core.Path.{_≡_, refl, sym, ap, _∙_}
 use Prim.Native.Nat.{_≤_, _-_}
 use lib.ListN.{length}
 use borrow.Author.Needs.{needs}
-use Rattle.tick.specs.Tick.{numberOf, tickOf}
-use Rattle.run.specs.Run.{refuses, stops, after, runOf}
+use Rattle.tick.specs.Tick.{numberOf, refuses, stops, tickOf}
+use Rattle.run.specs.Run.{after, runOf}
 use Rattle.run.proofs.Unroll.{begun, unroll-spent, unroll-refused, unroll-stopped, unroll-on}
 use Rattle.run.proofs.run.Statement.{statement}
 use Rattle.run.proofs.run.Tie as tie
