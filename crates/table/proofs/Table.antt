@@ -31,22 +31,22 @@ use Rattle.table.specs.Table.{outsideProgram, pastTheTop, offTheStack, o
 use Rattle.table.proofs.Needs.{by-test, same, push-stack, pushed-in, needs-told, lacking}
 
 -- ---- the statement as a test
-abbrev fits : ℕ → List (ℕ × Bool) → Bool
+abbrev pub fits : ℕ → List (ℕ × Bool) → Bool
 fits a [] = true
 fits a ((n, c) ∷ l) = Bool·beq (eqb a n) c && fits a l
 
-abbrev Fits : ℕ → List (ℕ × Bool) → Type 0
+abbrev pub Fits : ℕ → List (ℕ × Bool) → Type 0
 Fits a l = T (fits a l && eqb (holding l) 1)
 
 row : (a n : ℕ) (c : Bool) → T (Bool·beq (eqb a n) c) → (a ≡ n) ↔ (c ≡ true)
 row a n true t = (λ e. refl, λ e. by-test (λ b. T (Bool·beq b true) → a ≡ n) (eqb a n) (λ e u. eqb-true a n e) (λ e u. absurd u) t)
 row a n false t = (λ e. absurd (subst (λ (b : Bool). T (Bool·beq b false)) (eq-eqb a n e) t), λ e. absurd (subst T (sym e) tt))
 
-exactly : (a : ℕ) (l : List (ℕ × Bool)) → T (fits a l) → ExactlyWhen a l
+pub exactly : (a : ℕ) (l : List (ℕ × Bool)) → T (fits a l) → ExactlyWhen a l
 exactly a [] t = tt
 exactly a ((n, c) ∷ l) t = (row a n c (both-left (Bool·beq (eqb a n) c) (fits a l) t), exactly a l (both-right (Bool·beq (eqb a n) c) (fits a l) t))
 
-test : {X : Type 0} (c : Bool) → (c ≡ true → X) → (c ≡ false → X) → X
+pub test : {X : Type 0} (c : Bool) → (c ≡ true → X) → (c ≡ false → X) → X
 test true f g = f refl
 test false f g = g refl
 
