@@ -1,5 +1,5 @@
 -- Demand 3. `Lockstep`, `Handled`, `Arrival`: for any machine. `Instructions`, `Ticks`, `Stack`, `TickLaws`: the laws of `tickOf`. `Interrupts`: the demand.
--- `OneHandler`, `Stamps`: the worked runs. `BenchSheet`: 01's thirteen lines.
+-- `OneHandler`, `Stamps`: the worked runs. Demand 1: `BenchSheet`, 01's thirteen lines; `OneOutcome`. `Demands`: all three.
 pub mod Logic
 pub mod Lockstep
 pub mod Handled
@@ -12,3 +12,5 @@ pub mod Interrupts
 pub mod OneHandler
 pub mod Stamps
 pub mod BenchSheet
+pub mod OneOutcome
+pub mod Demands

@@ -26,7 +26,7 @@ use Rattle.invariants.specs.Ticks.{TickNumber}
 use Rattle.invariants.proofs.Choice.{clash}
 use Rattle.invariants.proofs.Ticks.{ticks-answer-by-the-table, refused-ticks-change-nothing}
 use Rattle.table.specs.Table.{rows, ExactlyWhen, holding}
-use Rattle.table.specs.Calls.{Given, registerRows, RegistersByTheTable, whole, writeRows, WritesByTheTable, readable, readRows, ReadsByTheTable, goesOn, RunsByTheTable, onlyIf, checkRows, TickCallsByTheTable, RefusedTickCallsChangeNothing, RunCallsByTheTable}
+use Rattle.table.specs.Calls.{Given, registerRows, RegistersByTheTable, whole, writeRows, WritesByTheTable, readable, readRows, ReadsByTheTable, goesOn, RunsByTheTable, afterTicks, RunsAreTicks, onlyIf, checkRows, TickCallsByTheTable, RefusedTickCallsChangeNothing, RunCallsByTheTable}
 use Rattle.table.proofs.Table.{test, fits, Fits, exactly, fits-the-table}
 
 shown : (a : ℕ) (l : List (ℕ × Bool)) → Fits a l → Given a l
@@ -34,13 +34,12 @@ shown a l t = (exactly a l (both-left (fits a l) (eqb (holding l) 1) t), eqb→e
 
 -- ---- registers
 pub registers-by-the-table : RegistersByTheTable
-registers-by-the-table k r v =
-    (
-      shown (readRegisterOf k r .refusal) (registerRows r) (test (ltb r 32) (λ e. rw e tt) λ e. rw e tt),
-      test (ltb r 32) (λ e. rw e (λ z. absurd (omega arith))) (λ e. rw e (λ z. refl)),
-      shown (setRegisterOf k r v .refusal) (registerRows r) (test (ltb r 32) (λ e. rw e tt) λ e. rw e tt),
-      test (ltb r 32) (λ e. rw e (λ z. absurd (omega arith))) (λ e. rw e (λ z. refl)),
-    )
+registers-by-the-table k r v = (
+  shown (readRegisterOf k r .refusal) (registerRows r) (test (ltb r 32) (λ e. rw e tt) λ e. rw e tt),
+  test (ltb r 32) (λ e. rw e (λ z. absurd (omega arith))) (λ e. rw e (λ z. refl)),
+  shown (setRegisterOf k r v .refusal) (registerRows r) (test (ltb r 32) (λ e. rw e tt) λ e. rw e tt),
+  test (ltb r 32) (λ e. rw e (λ z. absurd (omega arith))) (λ e. rw e (λ z. refl)),
+)
 
 -- ---- snapshots
 module _ (s : List ℕ) where
@@ -51,12 +50,11 @@ module _ (s : List ℕ) where
       test (whole s) (λ w. test (ltb 4 (getD s 37 0 / 32)) (busy w) λ b. test (eqb (getD s 37 0 % 8) 0) (fine w b) (spare w b)) short
 
 pub writes-by-the-table : WritesByTheTable
-writes-by-the-table k s =
-    (
-      shown (writeOf k s .refusal) (writeRows k s)
+writes-by-the-table k s = (
+  shown (writeOf k s .refusal) (writeRows k s)
       (test (whole s) (λ w. test (ltb 4 (k .busy)) (λ b. rw (w, b) tt) λ b. rw (w, b) tt) λ w. rw w tt),
-      test (whole s) (λ w. test (ltb 4 (k .busy)) (λ b. rw (w, b) (λ z. refl)) λ b. rw (w, b) (λ z. absurd (z refl))) (λ w. rw w (λ z. refl)),
-    )
+  test (whole s) (λ w. test (ltb 4 (k .busy)) (λ b. rw (w, b) (λ z. refl)) λ b. rw (w, b) (λ z. absurd (z refl))) (λ w. rw w (λ z. refl)),
+)
 
 pub reads-by-the-table : ReadsByTheTable
 reads-by-the-table s =
@@ -83,6 +81,49 @@ runs-by-the-table (suc b) k p m o =
     let l = below-24 k p m o in
     counted (refuses (t .answer)) (stops (t .answer)) t (runOf b (t .core) p (t .bytes) o) (goesOn b (t .core) p (t .bytes) o) b (λ e. omega arith)
     (runs-by-the-table b (t .core) p (t .bytes) o)
+
+-- a refused answer has a number; so has one below 16
+refused-by : (a : Answer) → refuses a ≡ true → (n : ℕ) × (a ≡ Refused n)
+refused-by (Refused n) h = (n, refl)
+refused-by Waited h = clash (sym h)
+refused-by Entered h = clash (sym h)
+refused-by Ran h = clash (sym h)
+refused-by Sleep h = clash (sym h)
+refused-by Watchdog h = clash (sym h)
+refused-by Undefined h = clash (sym h)
+refused-by Break h = clash (sym h)
+refused-by End h = clash (sym h)
+
+below-16 : (a : Answer) → numberOf a < 16 → refuses a ≡ true
+below-16 (Refused n) h = refl
+below-16 Waited h = absurd (omega arith)
+below-16 Entered h = absurd (omega arith)
+below-16 Ran h = absurd (omega arith)
+below-16 Sleep h = absurd (omega arith)
+below-16 Watchdog h = absurd (omega arith)
+below-16 Undefined h = absurd (omega arith)
+below-16 Break h = absurd (omega arith)
+below-16 End h = absurd (omega arith)
+
+-- a tick, and the rest of a run that is ticks one after another
+module _ (k : Core) (p m : List ℕ) (o : Offer) where
+  abbrev first : Tick
+  first = tickOf k p m o
+
+  followed : (r s : Bool) (x : Run) (b : ℕ) → (r ≡ true → (first .core ≡ k) × (first .bytes ≡ m))
+      → ((x .core, x .bytes) ≡ afterTicks (x .count) (first .core) p (first .bytes) o) × (x .count ≤ b)
+      → ((step r s first x .core, step r s first x .bytes) ≡ afterTicks (step r s first x .count) k p m o) × (step r s first x .count ≤ suc b)
+  followed true s x b h i = let (g, d) = h refl in (cc (g, d), omega arith)
+  followed false true x b h i = (refl, omega arith)
+  followed false false x b h (i, l) = let z : 1 + x .count ≡ suc (x .count) = omega arith in (rw z i, omega arith)
+
+pub runs-are-ticks : RunsAreTicks
+unfolding runOf
+runs-are-ticks zero k p m o = (refl, omega arith)
+runs-are-ticks (suc b) k p m o =
+    let t = tickOf k p m o in
+    followed k p m o (refuses (t .answer)) (stops (t .answer)) (runOf b (t .core) p (t .bytes) o) b
+    (λ r. let (n, e) = refused-by (t .answer) r in refused-ticks-change-nothing k p m o n e) (runs-are-ticks b (t .core) p (t .bytes) o)
 
 -- ---- the C interface
 always : (l : List (ℕ × Bool)) → onlyIf true l ≡ l
@@ -141,17 +182,6 @@ pub tick-calls-by-the-table : TickCallsByTheTable
 tick-calls-by-the-table s p m offer h =
     shown (avrTickOf s p m offer .number) (checkRows s offer (rows (coreOf s) p m (offerOf offer))) (fits-tick-call s h p m offer)
 
-refused-answer : (a : Answer) → numberOf a < 16 → (n : ℕ) × (a ≡ Refused n)
-refused-answer (Refused n) h = (n, refl)
-refused-answer Waited h = absurd (omega arith)
-refused-answer Entered h = absurd (omega arith)
-refused-answer Ran h = absurd (omega arith)
-refused-answer Sleep h = absurd (omega arith)
-refused-answer Watchdog h = absurd (omega arith)
-refused-answer Undefined h = absurd (omega arith)
-refused-answer Break h = absurd (omega arith)
-refused-answer End h = absurd (omega arith)
-
 pub refused-tick-calls-change-nothing : RefusedTickCallsChangeNothing
 unfolding avrTickOf
 refused-tick-calls-change-nothing s p m offer h =
@@ -163,7 +193,8 @@ refused-tick-calls-change-nothing s p m offer h =
         → told (number s h p m offer) (writeOf (tickOf (coreOf s) p m (offerOf offer) .core) s .bytes) (tickOf (coreOf s) p m (offerOf offer) .bytes)
         ≡ told (number s h p m offer) s m
     tick-refused w b z l =
-        let (n, r) = refused-answer (tickOf (coreOf s) p m (offerOf offer) .answer) l in
+        let a = tickOf (coreOf s) p m (offerOf offer) .answer in
+        let (n, r) = refused-by a (below-16 a l) in
         let (k, d) = refused-ticks-change-nothing (coreOf s) p m (offerOf offer) n r in
         cc (ap (λ (j : Core). writeOf j s .bytes) k ∙ unchanged s h p m offer w b z, d)
 
@@ -211,9 +242,16 @@ module _ (s p m : List ℕ) (offer budget ticks : ℕ) where
       let r : readOf s ≡ record { refusal = 0; core = coreOf s } = rw (w, b, z) refl in
       let n : avrRunOf s p m offer budget ticks .number ≡ ran .answer = rw (o, r) refl in
       subst (λ (a : ℕ). ExactlyWhen a runRows) (sym n)
-      (rw (o, w, b, z)
-        (run-above 10 (omega arith) (omega arith), (run-above 7 (omega arith) (omega arith), (run-above 8 (omega arith) (omega arith),
-        (run-above 9 (omega arith) (omega arith), (runs-by-the-table budget (coreOf s) p m (offerOf offer) .0, tt))))))
+      (rw (o, w, b, z) (
+        run-above 10 (omega arith) (omega arith),
+        (
+          run-above 7 (omega arith) (omega arith),
+          (
+            run-above 8 (omega arith) (omega arith),
+            (run-above 9 (omega arith) (omega arith), (runs-by-the-table budget (coreOf s) p m (offerOf offer) .0, tt)),
+          ),
+        ),
+      ))
 
   run-refused : (not (ltb 65536 offer) && readable s) ≡ false → avrRunOf s p m offer budget ticks ≡ toldTicks (avrRunOf s p m offer budget ticks .number) s m ticks
   unfolding avrRunOf

@@ -3,7 +3,7 @@ use mathlib.Core.Path.{_≡_}
 use mathlib.Core.Logic.{_↔_}
 use mathlib.Core.Bool.{Bool, true, false, not, _&&_}
 use mathlib.Core.List.{List, [], _∷_, _++_}
-use Prim.Native.Nat.{ℕ, zero, suc, _/_, _%_, _<_}
+use Prim.Native.Nat.{ℕ, zero, suc, _/_, _%_, _≤_, _<_}
 use lib.Dec.{eqb, ltb}
 use lib.ListN.{getD, length}
 use Rattle.cores.specs.declared.Core.{Core}
@@ -66,6 +66,16 @@ abbrev pub RunsByTheTable : Type 0
 RunsByTheTable =
     (budget : ℕ) (k : Core) (p m : List ℕ) (o : Offer)
     → (runOf budget k p m o .answer ≡ 24 ↔ goesOn budget k p m o ≡ true) × (runOf budget k p m o .answer ≡ 24 → runOf budget k p m o .count ≡ budget)
+
+-- "A run equals ticks one after another, its count included": core and data after n ticks
+abbrev pub afterTicks : ℕ → Core → List ℕ → List ℕ → Offer → Core × List ℕ
+afterTicks zero k p m o = (k, m)
+afterTicks (suc n) k p m o = let t = tickOf k p m o in afterTicks n (t .core) p (t .bytes) o
+
+abbrev pub RunsAreTicks : Type 0
+RunsAreTicks =
+    (budget : ℕ) (k : Core) (p m : List ℕ) (o : Offer)
+    → let r = runOf budget k p m o in ((r .core, r .bytes) ≡ afterTicks (r .count) k p m o) × (r .count ≤ budget)
 
 -- ---- "10 refused: C interface: offer above 65,536"; "checks in the order 10, 7, 8, 9, then the tick"
 -- rows that count only where g holds

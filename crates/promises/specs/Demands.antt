@@ -1,0 +1,78 @@
+-- THE THREE DEMANDS. Each line names a statement; the definitions that a statement rests on stand in the file that its heading names.
+use Rattle.invariants.specs.Ticks.{TicksStayInRange, RefusedTicksChangeNothing, TicksLeaveBusyAtMost4}
+use Rattle.run.specs.Run.{SameUnderLargerBudget}
+use Rattle.snapshot.specs.Snapshot.{ReadingUndoesWriting, WritingUndoesReading}
+use Rattle.table.specs.Table.{AnswersByTheTable}
+use Rattle.table.specs.Calls.{RegistersByTheTable, WritesByTheTable, ReadsByTheTable, RunsByTheTable, RunsAreTicks, TickCallsByTheTable, RefusedTickCallsChangeNothing, RunCallsByTheTable}
+use Rattle.source_decode.specs.RustDecode.{DecodesAsTheRust}
+use Rattle.source.specs.Statement.{EqualsTheRust, RefusedExactlyWhereItPanics, CodeEqualsTheRust, InPlaceEqualsTheRust}
+use Rattle.manual_opcodes.specs.Opcodes.{DecodesAsTheManual}
+use Rattle.manual.specs.Statement.{EqualsTheManual, EqualsBySwitches, AdiwAlone, LoadsAlone, StoresAlone, SeiAlone, UnknownAlone, OutsideAlone, EndAlone, TargetAlone, PointersAlone}
+use Rattle.manual.specs.Witnesses.{Witnesses}
+use Rattle.promises.specs.OneOutcome.{OneOutcome}
+use Rattle.promises.specs.BenchSheet.{BenchSheet}
+use Rattle.promises.specs.Interrupts.{InterruptsLeaveNoTrace, NoTraceAtTheEnd, ThreeWaitsAfterReti}
+use Rattle.promises.specs.Stamps.{StampsInOrder, FlagLost}
+
+-- 1. "Every core, program, data and offer gets one answer from document 01; a refused tick is named and changes neither core nor data."
+pub record Demand1 : Type 1 where
+  -- crates/table/specs/Table.antt: the answer is a number of 01's table exactly when its row's condition holds; one row holds
+  pub tick : AnswersByTheTable
+  pub refused : RefusedTicksChangeNothing
+  -- crates/table/specs/Calls.antt: the same of 6, of 5 and 7 to 9, of 24, and of 10
+  pub registers : RegistersByTheTable
+  pub writing : WritesByTheTable
+  pub reading : ReadsByTheTable
+  pub run : RunsByTheTable
+  pub tick-call : TickCallsByTheTable
+  pub refused-call : RefusedTickCallsChangeNothing
+  pub run-call : RunCallsByTheTable
+  -- OneOutcome.antt: whatever meets a contract of this code is one outcome
+  pub one-outcome : OneOutcome
+  -- crates/invariants/specs/Ticks.antt: every core stays one
+  pub in-range : TicksStayInRange
+  pub busy : TicksLeaveBusyAtMost4
+  -- crates/snapshot/specs/Snapshot.antt
+  pub reading-undoes-writing : ReadingUndoesWriting
+  pub writing-undoes-reading : WritingUndoesReading
+  -- BenchSheet.antt: 01's thirteen lines
+  pub bench-sheet : BenchSheet
+
+-- 2. "Each tick equals the Rust wherever a debug build would not panic, and equals the AVR Instruction Set Manual, listed differences apart.
+-- A run equals ticks one after another, its count included."
+pub record Demand2 : Type 0 where
+  -- crates/source_decode/specs/RustDecode.antt, crates/source/specs/Statement.antt
+  pub rust-decode : DecodesAsTheRust
+  pub rust : EqualsTheRust
+  pub panics : RefusedExactlyWhereItPanics
+  pub rust-code : CodeEqualsTheRust
+  pub rust-in-place : InPlaceEqualsTheRust
+  -- crates/manual_opcodes/specs/Opcodes.antt, crates/manual/specs/Statement.antt
+  pub manual-opcodes : DecodesAsTheManual
+  pub manual : EqualsTheManual
+  -- its listed differences, each alone and with its smallest input
+  pub switches : EqualsBySwitches
+  pub adiw : AdiwAlone
+  pub loads : LoadsAlone
+  pub stores : StoresAlone
+  pub sei : SeiAlone
+  pub unknown : UnknownAlone
+  pub outside : OutsideAlone
+  pub end : EndAlone
+  pub target : TargetAlone
+  pub pointers : PointersAlone
+  pub witnesses : Witnesses
+  -- crates/table/specs/Calls.antt, crates/run/specs/Run.antt
+  pub run : RunsAreTicks
+  pub larger-budget : SameUnderLargerBudget
+
+-- 3. "A stretch of register-only instructions ends with the same registers, SREG, SP and PC with interrupts anywhere in it as with none; it takes exactly
+-- the handlers' ticks more, and only handlers and entries write data."
+pub record Demand3 : Type 0 where
+  -- Interrupts.antt
+  pub no-trace : InterruptsLeaveNoTrace
+  pub no-trace-at-the-end : NoTraceAtTheEnd
+  pub three-waits : ThreeWaitsAfterReti
+  -- Stamps.antt: the two time stamps of the story, an interrupt at every place between; and what a handler that loses a flag does to them
+  pub stamps : StampsInOrder
+  pub flag-lost : FlagLost

@@ -1,0 +1,34 @@
+-- 01: "Prove that two outcomes meeting one contract are the same." Every public function's contract is one of these eight; docs/CONTRACTS.md says which is whose.
+use mathlib.Core.Path.{_≡_}
+use mathlib.Core.List.{List}
+use Prim.Native.Nat.{ℕ}
+use Rattle.cores.specs.declared.Core.{Core}
+use Rattle.cores.specs.State.{Out, Leaves}
+use Rattle.execute.specs.declared.Outcome.{Outcome}
+use Rattle.execute.specs.Execute.{Executed, Executes}
+use Rattle.tick.specs.declared.Answer.{Answer}
+use Rattle.tick.specs.declared.Ticked.{Ticked}
+use Rattle.tick.specs.Tick.{Tick, Ticks, inPlace}
+use Rattle.run.specs.declared.Ran.{Ran}
+use Rattle.run.specs.Run.{Run, Runs}
+use Rattle.snapshot.specs.Snapshot.{Written, Writes}
+use Rattle.host.specs.Host.{Told, Tells, ToldTicks, TellsTicks}
+
+-- whatever meets a contract is one outcome
+abbrev pub One : {A : Type 0} → (A → Type 0) → Type 0
+One {A} Meets = (x y : A) → Meets x → Meets y → x ≡ y
+
+pub record OneOutcome : Type 1 where
+  -- a result, or the bytes of a lent buffer afterwards, that equal a definition d
+  pub equation : {A : Type 0} (d : A) → One (λ (x : A). x ≡ d)
+  -- a core, and the bytes of data
+  pub leaves : (o : Out) → One (λ (x : Core × List ℕ). Leaves o (x .0) (x .1))
+  pub executes : (e : Executed) → One (λ (x : Outcome × List ℕ). Executes e (x .0) (x .1))
+  -- answer, core and data, handed back or left in place
+  pub ticks : (t : Tick) → One (λ (x : Ticked × List ℕ). Ticks t (x .0) (x .1))
+  pub ticks-in-place : (t : Tick) → One (λ (x : Answer × Core × List ℕ). Ticks t (inPlace (x .0) (x .1)) (x .2))
+  pub runs : (r : Run) → One (λ (x : Ran × List ℕ). Runs r (x .0) (x .1))
+  -- a number, and the bytes of each lent buffer
+  pub writes : (w : Written) → One (λ (x : ℕ × List ℕ). Writes w (x .0) (x .1))
+  pub tells : (t : Told) → One (λ (x : ℕ × List ℕ × List ℕ). Tells t (x .0) (x .1) (x .2))
+  pub tells-ticks : (t : ToldTicks) → One (λ (x : ℕ × List ℕ × List ℕ × ℕ). TellsTicks t (x .0) (x .1) (x .2) (x .3))
