@@ -44,11 +44,23 @@ function finish(    found, mutable) {
     inside = 0
 }
 
+# a free function of a module is public where lib.rt says so; a method is public with its type
+function exported(    module, lib, line, found) {
+    if (FILENAME ~ /\/lib\.rt$/ || type != "") return 1
+    module = FILENAME; sub(/.*\//, "", module); sub(/\.rt$/, "", module)
+    lib = FILENAME; sub(/[^\/]*$/, "lib.rt", lib)
+    while ((getline line < lib) > 0)
+        if (line == "pub use " module "::" name ";" || line == "pub mod " module ";") found = 1
+    close(lib)
+    return found
+}
+
 /^impl / { type = $2 }
 /^}/ { type = "" }
 /^ *pub (extern "C" )?fn / {
-    inside = 1; head = ""; contract = ""; laws = ""; told = 0
+    head = ""; contract = ""; laws = ""; told = 0
     name = $0; sub(/.*fn /, "", name); sub(/[(<].*/, "", name)
+    inside = exported()
 }
 inside && /^ *\{ *$/ { finish(); next }
 inside && /ensures/ {
