@@ -1,0 +1,37 @@
+//! Runs the two images on the proved core and compares what they stored with what a native build of the same C stores.
+//! Its last line is 'N passed, M failed'.
+
+mod cases;
+mod compare;
+mod layout;
+mod machine;
+mod native;
+mod random;
+
+use std::process::ExitCode;
+
+type Case = (&'static str, fn() -> cases::Verdict);
+
+const CASES: [Case; 6] = [
+    ("without interrupts", cases::without_interrupts),
+    ("an offer held at every tick", cases::an_offer_held_at_every_tick),
+    ("an entry from every tick", cases::an_entry_from_every_tick),
+    ("two stamps an hour apart, compared across an interrupt", cases::two_stamps_an_hour_apart_compared_across_an_interrupt),
+    ("the old fault sets 14:00 against 13:00", cases::the_old_fault_sets_14_00_against_13_00),
+    ("corrected logs under random offers", cases::corrected_logs_under_random_offers),
+];
+
+fn main() -> ExitCode {
+    let mut failed = 0;
+    for (name, case) in CASES {
+        match case() {
+            Ok(compared) => println!("{name}: {compared}"),
+            Err(difference) => {
+                failed += 1;
+                println!("failed: {name}: {difference}");
+            }
+        }
+    }
+    println!("{} passed, {failed} failed", CASES.len() - failed);
+    ExitCode::from(u8::from(failed > 0))
+}
