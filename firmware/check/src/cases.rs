@@ -72,7 +72,8 @@ pub fn two_stamps_an_hour_apart_compared_across_an_interrupt() -> Verdict {
     for log in [an_hour_apart(), log_of(HEAT_INDEX_TIMER)] {
         let program = with_log(HEAT_INDEX_TIMER, &log);
         for choice in 0..1 << PLACES {
-            let chosen = |machine: &mut Machine| (0..PLACES).any(|place| choice >> place & 1 == 1 && machine.is_about_to_run(places[place]));
+            let chosen =
+                |machine: &mut Machine| (0..PLACES).any(|place| choice >> place & 1 == 1 && machine.is_about_to_run(places[place]));
             let outcome = Machine::fresh(&program).finish(chosen)?;
             same_under_timer(&outcome, &log, &format!("choice {choice:05b}"))?;
             if (outcome.entries == 0) != (choice == 0) {
