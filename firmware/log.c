@@ -1,4 +1,4 @@
-/* The readings of 14 July 2026, as the loggers left them: the humidity of 13:00 is missing and the temperature of 15:00 is. */
+/* The readings of 14 July 2026, as the loggers left them: no humidity of 13:00 and no temperature of 15:00. */
 #include "heat.h"
 
 #define AT(hour) (1784030400UL + 3600UL * ((hour) - 12))
