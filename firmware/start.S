@@ -13,8 +13,6 @@ unexpected:
     break
     rjmp unexpected
 
-    .global __do_clear_bss ; GCC asks for it by name
-__do_clear_bss:
 start:
     clr r1
     ldi r28, lo8(stack_top)
