@@ -1,0 +1,69 @@
+//! The format of `answers`: a case in, an answer out.
+
+use std::io::{Read, Result, Write};
+
+use original::{Case, Outcome, State};
+
+pub const NO_OFFER: u32 = 65_536;
+
+/// What `answers` gives for a case. Anything but an answer leaves snapshot and data as they were.
+#[derive(Clone, PartialEq, Eq, Debug)]
+pub struct Answer {
+    pub number: u8,
+    pub snapshot: [u8; 38],
+    pub data: Vec<u8>,
+}
+
+pub fn snapshot(state: &State) -> [u8; 38] {
+    let mut bytes = [0; 38];
+    bytes[..32].copy_from_slice(&state.regs);
+    bytes[32] = state.sreg;
+    bytes[33..35].copy_from_slice(&state.pc.to_be_bytes());
+    bytes[35..37].copy_from_slice(&state.sp.to_be_bytes());
+    bytes[37] = state.busy << 5 | u8::from(state.inhibit) << 4 | u8::from(state.in_service) << 3;
+    bytes
+}
+
+/// A case by its bytes, so that wrong ones can be written too.
+pub fn write_raw(to: &mut impl Write, snapshot: &[u8; 38], offer: u32, program: &[u8], data: &[u8]) -> Result<()> {
+    to.write_all(snapshot)?;
+    for number in [offer, program.len() as u32, data.len() as u32] {
+        to.write_all(&number.to_be_bytes())?;
+    }
+    to.write_all(program)?;
+    to.write_all(data)
+}
+
+pub fn write_case(to: &mut impl Write, case: &Case) -> Result<()> {
+    let offer = case.offer.map_or(NO_OFFER, u32::from);
+    write_raw(to, &snapshot(&case.state), offer, &case.program, &case.data)
+}
+
+pub fn read_answer(from: &mut impl Read, data_len: usize) -> Result<Answer> {
+    let mut head = [0; 39];
+    from.read_exact(&mut head)?;
+    let mut data = vec![0; data_len];
+    from.read_exact(&mut data)?;
+    Ok(Answer { number: head[0], snapshot: head[1..].try_into().expect("38 bytes"), data })
+}
+
+impl Answer {
+    /// A refused case's: nothing changed.
+    pub fn refused(number: u8, case: &Case) -> Self {
+        Answer { number, snapshot: snapshot(&case.state), data: case.data.clone() }
+    }
+
+    pub fn write(&self, to: &mut impl Write) -> Result<()> {
+        to.write_all(&[self.number])?;
+        to.write_all(&self.snapshot)?;
+        to.write_all(&self.data)
+    }
+}
+
+/// What the original's outcome asks for; of a refusal's number, which the original doesn't say, `port`'s where the panic allows it.
+pub fn expected(case: &Case, outcome: &Outcome, port: u8) -> Option<Answer> {
+    match outcome {
+        Outcome::Done { answer, state, data } => Some(Answer { number: *answer, snapshot: snapshot(state), data: data.clone() }),
+        Outcome::Panicked(panic) => panic.allows(port).then(|| Answer::refused(port, case)),
+    }
+}
