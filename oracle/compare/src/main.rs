@@ -1,5 +1,6 @@
 //! `oracle compare N SEED` and `oracle record SEED`: see README.md.
 
+mod bench;
 mod compare;
 mod draw;
 mod limits;

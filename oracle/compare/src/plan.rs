@@ -59,14 +59,15 @@ impl Plan {
 
     pub fn case(&self, index: u64) -> Case {
         let random = &mut Random::new(self.seed, index);
+        if index % 2 == 1 {
+            return draw::any(random, &self.words);
+        }
         let mut left = index / 2;
-        if index % 2 == 0 {
-            for part in &PARTS {
-                if left < part.len {
-                    return (part.case)(&self.words, left as usize, random);
-                }
-                left -= part.len;
+        for part in &PARTS {
+            if left < part.len {
+                return (part.case)(&self.words, left as usize, random);
             }
+            left -= part.len;
         }
         draw::any(random, &self.words)
     }
@@ -91,15 +92,12 @@ fn every_word(words: &Words, index: usize, random: &mut Random) -> Case {
         let long = Long::seldom(random);
         return draw::around(random, words, word, long);
     }
-    let mut case = arithmetic(random, word, random_carry(word), &[(26, 128), (27, 0), (28, 64), (29, 0), (30, 0), (31, 0)]);
+    let carry = random.below(2) as u8;
+    let mut case = arithmetic(random, word, carry, &[(26, 128), (27, 0), (28, 64), (29, 0), (30, 0), (31, 0)]);
     case.program.extend([128, 0, 0, 0]);
     case.data = random.bytes(256);
     case.state.sp = 128;
     case
-}
-
-fn random_carry(word: u16) -> u8 {
-    (word % 2) as u8
 }
 
 /// `word` at PC 0 and nothing in its way; the registers named, C as given, and the rest drawn.

@@ -67,3 +67,27 @@ pub fn expected(case: &Case, outcome: &Outcome, port: u8) -> Option<Answer> {
         Outcome::Panicked(panic) => panic.allows(port).then(|| Answer::refused(port, case)),
     }
 }
+
+/// The next whole case and its snapshot as written; nothing where the input ends or a length is too large.
+#[cfg(test)]
+pub fn read_case(from: &mut &[u8]) -> Option<([u8; 38], Case)> {
+    let mut take = |len: usize| {
+        let (bytes, rest) = from.split_at_checked(len)?;
+        *from = rest;
+        Some(bytes)
+    };
+    let head: [u8; 38] = take(38)?.try_into().ok()?;
+    let numbers: Vec<u32> = take(12)?.chunks(4).map(|bytes| u32::from_be_bytes(bytes.try_into().expect("4 bytes"))).collect();
+    let (program, data) = (take(numbers[1] as usize)?.to_vec(), take(numbers[2] as usize)?.to_vec());
+    let word = |at: usize| u16::from_be_bytes([head[at], head[at + 1]]);
+    let state = State {
+        regs: head[..32].try_into().expect("32 bytes"),
+        sreg: head[32],
+        pc: word(33),
+        sp: word(35),
+        busy: head[37] >> 5,
+        inhibit: head[37] >> 4 & 1 == 1,
+        in_service: head[37] >> 3 & 1 == 1,
+    };
+    Some((head, Case { state, offer: u16::try_from(numbers[0]).ok(), program, data }))
+}
