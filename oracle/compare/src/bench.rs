@@ -1,4 +1,4 @@
-//! 01's bench sheet as cases, each with its number of ticks, and the top of the program.
+//! Cases made by hand: 01's bench sheet, each line with its number of ticks, and the top of the program.
 
 use original::{Case, State};
 

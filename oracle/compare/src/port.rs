@@ -19,22 +19,26 @@ pub fn root() -> PathBuf {
     Path::new(env!("CARGO_MANIFEST_DIR")).join("../..")
 }
 
-/// The command in ANSWERS, or target/bin/answers under the kit's loader, as `rt` runs it.
+/// The program in ANSWERS, or target/bin/answers, run as `rt` runs it: under the kit's loader and, off x86-64, the kit's emulator.
 fn command() -> Result<Command, String> {
-    if let Ok(line) = env::var("ANSWERS") {
-        let mut parts = line.split_whitespace();
-        let mut command = Command::new(parts.next().ok_or("ANSWERS is empty")?);
-        command.args(parts);
-        return Ok(command);
+    let program = env::var_os("ANSWERS").map_or(root().join("target/bin/answers"), PathBuf::from);
+    let tools = kit()?.join("on").join(env::consts::ARCH).join("toolchain");
+    let (emulator, loader) = (tools.join("bin/qemu-x86_64"), tools.join("lib/ld-linux-x86-64.so.2"));
+    let mut command = Command::new(&loader);
+    if emulator.is_file() {
+        command = Command::new(emulator);
+        command.arg(&loader);
     }
+    command.arg("--library-path").arg(tools.join("lib")).arg(program);
+    Ok(command)
+}
+
+/// The folder of the Rattle kit: that above the one in which `rt` stands.
+fn kit() -> Result<PathBuf, String> {
     let paths = env::var_os("PATH").unwrap_or_default();
     let rt = env::split_paths(&paths).map(|folder| folder.join("rt")).find(|path| path.is_file()).ok_or("no rt on PATH")?;
     let rt = rt.canonicalize().map_err(|error| error.to_string())?;
-    let kit = rt.parent().and_then(Path::parent).ok_or("rt stands in no kit")?;
-    let lib = kit.join("on").join(env::consts::ARCH).join("toolchain/lib");
-    let mut command = Command::new(lib.join("ld-linux-x86-64.so.2"));
-    command.arg("--library-path").arg(lib).arg(root().join("target/bin/answers"));
-    Ok(command)
+    Ok(rt.ancestors().nth(2).ok_or("rt stands in no kit")?.to_path_buf())
 }
 
 impl Port {

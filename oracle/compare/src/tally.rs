@@ -33,15 +33,21 @@ impl Tally {
         Tally { answers: [0; 256], panics: [0; 4], executed: vec![0; words.readings()], limits: [0; LIMITS.len()] }
     }
 
-    pub fn count(&mut self, words: &Words, case: &Case, outcome: &Outcome, number: u8) {
-        self.answers[usize::from(number)] += 1;
-        if let Outcome::Panicked(panic) = outcome {
-            self.panics[*panic as usize] += 1;
-        }
-        if (18..=22).contains(&number) {
-            let at = 2 * usize::from(case.state.pc);
-            let opcode = u16::from_le_bytes([case.program[at], case.program[at + 1]]);
-            self.executed[words.patterns.reading(opcode)] += 1;
+    /// A case by the original's outcome; `refusal` is the number of a panic.
+    pub fn count(&mut self, words: &Words, case: &Case, outcome: &Outcome, refusal: u8) {
+        match outcome {
+            Outcome::Panicked(panic) => {
+                self.answers[usize::from(refusal)] += 1;
+                self.panics[*panic as usize] += 1;
+            }
+            Outcome::Done { answer, .. } => {
+                self.answers[usize::from(*answer)] += 1;
+                if (18..=22).contains(answer) {
+                    let at = 2 * usize::from(case.state.pc);
+                    let opcode = u16::from_le_bytes([case.program[at], case.program[at + 1]]);
+                    self.executed[words.patterns.reading(opcode)] += 1;
+                }
+            }
         }
         for (sum, (_, test)) in self.limits.iter_mut().zip(LIMITS) {
             *sum += u64::from(test(case));
