@@ -27,7 +27,12 @@ impl Long {
 /// Any case at all.
 pub fn any(random: &mut Random, words: &Words) -> Case {
     let long = Long::seldom(random);
-    let word = if long.program && !random.one_in(4) { words.of_two_words_or_skip(random) } else { words.any(random) };
+    let word = match long {
+        _ if random.one_in(4) => words.any(random),
+        Long { program: true, .. } => words.of_two_words_or_skip(random),
+        Long { data: true, .. } => words.of_memory(random),
+        _ => words.any(random),
+    };
     around(random, words, word, long)
 }
 

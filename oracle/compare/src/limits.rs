@@ -17,7 +17,7 @@ fn any_pointer(case: &Case, test: impl Fn(u16) -> bool) -> bool {
     [26, 28, 30].into_iter().any(|low| test(pointer(case, low)))
 }
 
-pub const LIMITS: [Limit; 36] = [
+pub const LIMITS: [Limit; 38] = [
     ("PC 0", |c| c.state.pc == 0),
     ("PC 65533", |c| c.state.pc == 65_533),
     ("PC 65533 in program", |c| c.state.pc == 65_533 && rest(c) >= 2),
@@ -44,6 +44,8 @@ pub const LIMITS: [Limit; 36] = [
     ("data 256", |c| c.data.len() == 256),
     ("data 65536", |c| c.data.len() == 65_536),
     ("data above 65536", |c| c.data.len() > 65_536),
+    ("data 65536 or more, SP 65533 or more", |c| c.data.len() >= 65_536 && c.state.sp >= 65_533),
+    ("data 65536 or more, X, Y or Z 65473 or more", |c| c.data.len() >= 65_536 && any_pointer(c, |p| p >= 65_473)),
     ("program ends before or in the opcode", |c| rest(c) < 2),
     ("program ends behind the opcode", |c| rest(c) == 2),
     ("program ends in the second word", |c| rest(c) == 3),

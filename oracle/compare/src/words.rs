@@ -8,6 +8,10 @@ use crate::random::Random;
 const TWO_WORDS: [&str; 4] = ["CALL", "JMP", "LDS", "STS"];
 const SKIPS: [&str; 5] = ["CPSE", "SBIC", "SBIS", "SBRC", "SBRS"];
 
+/// Those that reach the end of a long data: calls and returns, the stack, displaced and stepped pointers.
+const MEMORY: [&str; 15] =
+    ["CALL", "RCALL", "ICALL", "RET", "RETI", "PUSH", "POP", "LDDY", "LDDZ", "STDY", "STDZ", "LDXinc", "LDXdec", "STXinc", "STXdec"];
+
 pub struct Words {
     pub patterns: Patterns,
     undefined: Vec<u16>,
@@ -42,16 +46,24 @@ impl Words {
         }
     }
 
+    fn of(&self, names: &[&str], random: &mut Random) -> u16 {
+        self.patterns.named(random.of(names)).word(&[], random.word())
+    }
+
     pub fn of_two_words(&self, random: &mut Random) -> u16 {
-        self.patterns.named(random.of(&TWO_WORDS)).word(&[], random.word())
+        self.of(&TWO_WORDS, random)
+    }
+
+    pub fn of_memory(&self, random: &mut Random) -> u16 {
+        self.of(&MEMORY, random)
     }
 
     /// What the top of the program is hardest on.
     pub fn of_two_words_or_skip(&self, random: &mut Random) -> u16 {
         if random.one_in(2) {
-            self.of_two_words(random)
+            self.of(&TWO_WORDS, random)
         } else {
-            self.patterns.named(random.of(&SKIPS)).word(&[], random.word())
+            self.of(&SKIPS, random)
         }
     }
 }
