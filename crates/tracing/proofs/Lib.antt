@@ -1,3 +1,6 @@
--- `Joined`: texts put one behind the other. `Short`: no line of a tick is longer than 40 bytes.
+-- `Joined`: texts put one behind the other into a line. `Short`: no line of a tick is longer than 40 bytes.
+-- `Laid`: texts put one behind the other into a buffer. `Unroll`: one tick of a trace.
 pub mod Joined
 pub mod Short
+pub mod Laid
+pub mod Unroll

@@ -1,14 +1,17 @@
 -- 01, "Program `trace`".
 use mathlib.Core.Path.{_≡_}
-use mathlib.Core.Bool.{Bool}
+use mathlib.Core.Bool.{Bool, true, false, _||_}
 use mathlib.Core.List.{List, [], _∷_, _++_}
-use Prim.Native.Nat.{ℕ, _+_, _*_, _-_, _/_, _%_, _≤_}
+use Prim.Native.Nat.{ℕ, zero, suc, _+_, _*_, _-_, _/_, _%_, _≤_, min}
 use Prim.Native.Char.{code}
 use Prim.Native.String.{String, [] as end, _∷_ as then}
 use lib.Dec.{ltb, leb}
-use lib.ListN.{getD, take, length, replicate}
+use lib.ListN.{getD, set, take, drop, length, replicate}
 use Rattle.basis.specs.Pick.{pick}
 use Rattle.cores.specs.declared.Core.{Core}
+use Rattle.cores.specs.State.{freshOf}
+use Rattle.tick.specs.Tick.{refuses, stops, tickOf}
+use Rattle.tick.specs.declared.Offer.the-variants.{Nothing}
 use Rattle.tick.specs.declared.Answer.{Answer}
 use Rattle.tick.specs.declared.Answer.the-variants.{Refused, Waited, Entered, Ran, Sleep, Watchdog, Undefined, Break, End}
 use Rattle.tracing.specs.declared.line.Line.{Line}
@@ -73,6 +76,37 @@ lineOf number before answer k =
     decimal number ++ space ++ hex4 before ++ space ++ wordOf answer ++ space ++ hex4 (k .pc) ++ space
     ++ ((48 + k .busy % 10) ∷ []) ++ space ++ hex2 (k .sreg) ++ space ++ hex4 (k .sp) ++ (10 ∷ [])
 
+-- ---- the program's text
+-- "It stops as a run does. One line a tick": the lines of at most so many ticks, the first of this number, from core k, with program p and data m
+unfoldable pub linesOf : ℕ → ℕ → Core → List ℕ → List ℕ → List ℕ
+linesOf zero number k p m = []
+linesOf (suc left) number k p m =
+    let t = tickOf k p m Nothing in
+    lineOf number (k .pc) (t .answer) (t .core)
+    ++ elim (refuses (t .answer) || stops (t .answer)) [ true ↦ [] | false ↦ linesOf left (number + 1) (t .core) p (t .bytes) ]
+
+-- "Data is 16,384 zeros; no offer."
+unfoldable pub zeros : List ℕ
+zeros = replicate 16384 0
+
+-- the trace of a program from the fresh core
+abbrev pub ticksOf : ℕ → ℕ → List ℕ → List ℕ
+ticksOf sp budget p = linesOf budget 1 (freshOf sp) p zeros
+
+-- "then P bytes; the rest is ignored."
+abbrev pub textOf : Job → List ℕ → List ℕ
+textOf Bad s = text "bad input" ++ (10 ∷ [])
+textOf (Trace size sp budget) s = ticksOf sp budget (take size (drop 6 s))
+
+-- all that the program prints for an input
+abbrev pub traceOf : List ℕ → List ℕ
+traceOf s = textOf (jobOf s) s
+
+-- a text in a buffer: as much of it as fits, n bytes, and behind them what the buffer held
+pub record Prints (t before : List ℕ) (n : ℕ) (after : List ℕ) : Type 0 where
+  pub count : n ≡ min (length t) (length before)
+  pub bytes : after ≡ take (length before) t ++ drop (length t) before
+
 -- ---- the code's line: the one that holds a text has zeros behind it
 abbrev pub holding : List ℕ → Line
 holding t = record { bytes = t ++ replicate (40 - length t) 0; len = length t }
@@ -80,3 +114,19 @@ holding t = record { bytes = t ++ replicate (40 - length t) 0; len = length t }
 -- from a line that holds a text, the one that holds it with more behind it, as far as that fits
 pub record Puts (l m : Line) (more : List ℕ) : Type 0 where
   pub holds : (t : List ℕ) → length t ≤ 40 → l ≡ holding t → m ≡ holding (take 40 (t ++ more))
+
+-- ---- the code's buffer, and where the next byte goes
+pub record Page : Type 0 where
+  pub bytes : List ℕ
+  pub at : ℕ
+
+abbrev pub page : List ℕ → ℕ → Page
+page s n = record { bytes = s; at = n }
+
+-- one byte more, which is dropped at the buffer's end
+abbrev pub withByte : Page → ℕ → Page
+withByte g b = page (set (g .bytes) (g .at) b) (pick (ltb (g .at) (length (g .bytes))) (g .at + 1) (g .at))
+
+unfoldable pub withText : Page → List ℕ → Page
+withText g [] = g
+withText g (b ∷ t) = withText (withByte g b) t

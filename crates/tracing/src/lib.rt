@@ -1,8 +1,18 @@
-// What `trace` reads and prints: the job that its input says, and a tick's line.
+// What `trace` prints for its input: a line for each tick.
+use job::Job;
+ghost use Rattle.tracing.specs.Trace.{traceOf, Prints};
+
 mod job;
 mod line;
+mod lines;
+mod page;
 
-pub use job::Job;
-pub use job::job_of;
-pub use line::Line;
-pub use line::line_of;
+// The text into `out`, as far as it fits; how many bytes that is.
+pub fn trace(input: &[u8], out: &mut [u8]) -> usize
+    ensures { λ n. ⌜ Prints (traceOf (now (input .entry))) (now (out .entry)) n (now (out .exit)) ⌝ }
+{
+    match job::job_of(input) {
+        Job::Bad => page::put_text(out, 0, b"bad input\n"),
+        Job::Trace { size, sp, budget } => lines::put_lines(out, &input[6..size + 6], sp, budget),
+    }
+}

@@ -1,0 +1,49 @@
+-- `trace`: what the job says, from the buffer's start.
+-- Assumes nothing.
+use mathlib.Core.Path.{_≡_, sym, subst, _∙_}
+use mathlib.Core.List.{List}
+use Prim.Native.Nat.{ℕ, _+_, _-_, _≤_}
+use native.Mathlib.Omega.{arith}
+use lib.ListN.{length}
+use borrow.Author.Needs.{needs}
+use Rattle.tracing.specs.declared.job.Job.{Job}
+use Rattle.tracing.specs.Trace.{Within, jobOf, textOf, traceOf, page, withText, Prints}
+use Rattle.tracing.proofs.Laid.{prints}
+use Rattle.tracing.proofs.trace.Statement.{statement}
+use Rattle.tracing.proofs.trace.Tie as tie
+
+asked : (s d : List ℕ) (n : ℕ) (o : List ℕ) (j k : Job) → k ≡ jobOf s → k ≡ j → page o n ≡ withText (page d 0) (textOf j s) → Prints (traceOf s) d n o
+asked s d n o j k is told e = subst (λ (j : Job). Prints (textOf j s) d n o) (sym told ∙ is) (prints e)
+
+pub trace-spec : {M : Type 1} → statement M
+trace-spec =
+    tie.close
+    (tie.spec
+    (λ c κs. search needs)
+    (λ c. search needs)
+    (λ c. search needs)
+    (λ c κs. search needs)
+    (λ c. search needs)
+    (λ c.
+    let d = c .before .before .before .before in
+    let input = d .before .before .before .args .input .now in
+    let h : c .before .before .size .given .0 .0 + 6 ≤ length input = subst (λ (j : Job). Within j input) (c .before .before .size .given .1) (d .job-of .ensures .1) in
+    search needs)
+    (λ c. search needs)
+    (λ c. search needs)
+    (λ c.
+    let d = c .before .before .before .before in
+    let input = d .before .before .before .args .input .now in
+    let h : c .before .before .size .given .0 .0 + 6 ≤ length input = subst (λ (j : Job). Within j input) (c .before .before .size .given .1) (d .job-of .ensures .1) in
+    search needs)
+    (λ c κs. search needs)
+    (λ c. search needs)
+    (λ c.
+    let d = c .before .before .before .before .before .before .before in
+    asked (d .before .before .before .args .input .now) _ _ _ _ _ (d .job-of .ensures .0) (c .before .before .before .before .before .enum-told .given .1) (c .before .before .put-text .ensures))
+    (λ c. search needs)
+    (λ c.
+    let z = c .before .before .before .before .before .before .size .given in
+    let d = c .before .before .before .before .before .before .before .before in
+    let all : z .0 .0 + 6 - 6 ≡ z .0 .0 = omega arith in
+    asked (d .before .before .before .args .input .now) _ _ _ _ _ (d .job-of .ensures .0) (z .1) (rw all at (c .before .before .put-lines .ensures))))

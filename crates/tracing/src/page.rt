@@ -1,0 +1,27 @@
+// A lent buffer that a text is put into, from `at` on; what does not fit is dropped. Each hands back where the text ends.
+ghost use mathlib.Core.Path.{_≡_};
+ghost use mathlib.Core.List.{[], _∷_};
+ghost use Rattle.tracing.specs.Trace.{page, withText};
+
+pub fn put_byte(out: &mut [u8], at: usize, b: u8) -> usize
+    ensures { λ n. ⌜ page (now (out .exit)) n ≡ withText (page (now (out .entry)) at) (b ∷ []) ⌝ }
+{
+    if at < out.len() {
+        out[at] = b;
+        at + 1
+    } else {
+        at
+    }
+}
+
+pub fn put_text(out: &mut [u8], at: usize, text: &[u8]) -> usize
+    ensures { λ n. ⌜ page (now (out .exit)) n ≡ withText (page (now (out .entry)) at) (now (text .entry)) ⌝ }
+{
+    let mut end = at;
+    let mut i: usize = 0;
+    while i < text.len() {
+        end = put_byte(out, end, text[i]);
+        i += 1;
+    }
+    end
+}
