@@ -49,10 +49,9 @@ decimal-short : (n : ℕ) → Short (decimal n) 5
 decimal-short n =
     _then_ (_then_ (_then_ (_then_ (digit-short n 10000) (digit-short n 1000)) (digit-short n 100)) (digit-short n 10)) (one _)
 
-pub line-short : (number before : ℕ) (answer : Answer) (k : Core) → length (lineOf number before answer k) ≤ 40
+pub line-short : (number before : ℕ) (answer : Answer) (k : Core) → length (lineOf number before answer k) ≤ 36
 line-short number before answer k =
     let start = _then_ (_then_ (_then_ (_then_ (decimal-short number) (one 32)) (four before)) (one 32)) (word-short answer) in
     let middle = _then_ (_then_ (_then_ (_then_ start (one 32)) (four (k .pc))) (one 32)) (one _) in
     let line : Short (lineOf number before answer k) 36 = _then_ (_then_ (_then_ (_then_ (_then_ middle (one 32)) (two (k .sreg))) (one 32)) (four (k .sp))) (one 10) in
-    let h = line .bound in
-    omega arith
+    line .bound

@@ -9,7 +9,7 @@ use lib.Dec.{ltb, leb}
 use lib.ListN.{getD, set, take, drop, length, replicate}
 use Rattle.basis.specs.Pick.{pick}
 use Rattle.cores.specs.declared.Core.{Core}
-use Rattle.cores.specs.State.{freshOf}
+use Rattle.cores.specs.State.{freshOf, Bytes}
 use Rattle.tick.specs.Tick.{refuses, stops, tickOf}
 use Rattle.tick.specs.declared.Offer.the-variants.{Nothing}
 use Rattle.tick.specs.declared.Answer.{Answer}
@@ -106,6 +106,10 @@ traceOf s = textOf (jobOf s) s
 pub record Prints (t before : List ℕ) (n : ℕ) (after : List ℕ) : Type 0 where
   pub count : n ≡ min (length t) (length before)
   pub bytes : after ≡ take (length before) t ++ drop (length t) before
+
+-- the theorem, proved in proofs/Whole.antt: a buffer for 65,535 lines of 36 bytes takes the whole of every trace
+abbrev pub WholeTrace : Type 0
+WholeTrace = (s d o : List ℕ) (n : ℕ) → Bytes s → 65535 * 36 ≤ length d → Prints (traceOf s) d n o → take n o ≡ traceOf s
 
 -- ---- the code's line: the one that holds a text has zeros behind it
 abbrev pub holding : List ℕ → Line

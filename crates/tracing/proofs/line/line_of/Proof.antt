@@ -1,6 +1,10 @@
 -- `line_of`: the fields put one behind the other into an empty line, and they fit.
 -- Assumes nothing.
+use Prim.Native.Nat.{_≤_}
+use lib.ListN.{length}
+use native.Mathlib.Omega.{arith}
 use borrow.Author.Needs.{needs}
+use Rattle.tracing.specs.Trace.{lineOf}
 use Rattle.tracing.proofs.Joined.{both, whole}
 use Rattle.tracing.proofs.Short.{line-short}
 use Rattle.tracing.proofs.line.line_of.Statement.{statement}
@@ -39,5 +43,5 @@ line-of-spec =
     let line =
     both (both (both (both (both middle (c .before .before .before .before .put6 .ensures)) (c .before .before .before .put-hex2 .ensures))
     (c .before .before .put7 .ensures)) (c .before .put-hex43 .ensures)) (c .put8 .ensures) in
-    let short = line-short (k .number) (k .before) (k .answer) (k .core) in
+    let short : length (lineOf (k .number) (k .before) (k .answer) (k .core)) ≤ 40 = omega (arith, line-short (k .number) (k .before) (k .answer) (k .core)) in
     let is = whole line (word .before .before .before .before .before .empty .ensures) short in (is, rw is short)))
