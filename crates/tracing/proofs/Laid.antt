@@ -9,24 +9,23 @@ use lib.Dec.{leb·suc-suc}
 use lib.ListN.{length, take, drop, length-take}
 use borrow.Author.Tests.{lt-ltb}
 use Rattle.basis.specs.Pick.{pick}
-use Rattle.tracing.specs.Trace.{Page, page, withByte, withText, Prints}
-
-pub no-text : (g : Page) → withText g [] ≡ g
-unfolding withText
-no-text g = refl
+use Rattle.tracing.specs.Trace.{Page, page, withByte, withText, Puts, Prints}
 
 pub one-byte : (g : Page) (b : ℕ) → withText g (b ∷ []) ≡ withByte g b
 unfolding withText
 one-byte g b = refl
 
-pub first-byte : (g : Page) (b : ℕ) (t : List ℕ) → withText g (b ∷ t) ≡ withText (withText g (b ∷ [])) t
+pub none : (g : Page) → Puts g [] g
 unfolding withText
-first-byte g b t = refl
+none g = record { is = refl }
 
 pub in-order : (g : Page) (s t : List ℕ) → withText g (s ++ t) ≡ withText (withText g s) t
 unfolding withText
 in-order g [] t = refl
 in-order g (b ∷ s) t = in-order (withByte g b) s t
+
+pub both : {g h j : Page} {s t : List ℕ} → Puts g s h → Puts h t j → Puts g (s ++ t) j
+both {g} {h} {j} {s} {t} p q = record { is = rw (in-order g s t, ← p .is) (q .is) }
 
 -- ---- from a buffer's start
 abbrev behind : ℕ → Page → Page
@@ -54,8 +53,8 @@ from-start (b ∷ t) [] = nothing-fits t
 from-start (b ∷ t) (x ∷ d) =
     rw (lt-ltb 0 (suc (length d)) (omega arith)) (shifted t b d 0 ∙ ap (behind b) (from-start t d))
 
-pub prints : {t d : List ℕ} {n : ℕ} {s : List ℕ} → page s n ≡ withText (page d 0) t → Prints t d n s
-prints {t} {d} e =
-    let is = e ∙ from-start t d in
+pub prints : {t d : List ℕ} {n : ℕ} {s : List ℕ} → Puts (page d 0) t (page s n) → Prints t d n s
+prints {t} {d} p =
+    let is = p .is ∙ from-start t d in
     let count : length (take (length d) t) ≡ min (length t) (length d) = rw length-take (omega arith) in
     record { count = ap (λ (g : Page). g .at) is ∙ count; bytes = ap (λ (g : Page). g .bytes) is }

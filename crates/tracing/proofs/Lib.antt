@@ -1,7 +1,6 @@
--- `Joined`: texts put one behind the other into a line. `Short`: no line of a tick is longer than 36 bytes.
--- `Laid`: texts put one behind the other into a buffer. `Unroll`: one tick of a trace. `Whole`: the longest trace.
-pub mod Joined
-pub mod Short
+-- `Laid`: texts put one behind the other into a buffer. `Unroll`: one tick of a trace.
+-- `Short`: no line of a tick is longer than 36 bytes. `Whole`: nor a trace than 65,535 of them.
 pub mod Laid
 pub mod Unroll
+pub mod Short
 pub mod Whole

@@ -10,7 +10,7 @@ use Rattle.basis.specs.Pick.{pick}
 use Rattle.cores.specs.declared.Core.{Core}
 use Rattle.tick.specs.declared.Answer.{Answer}
 use Rattle.tick.specs.declared.Answer.the-variants.{Refused, Waited, Entered, Ran, Sleep, Watchdog, Undefined, Break, End}
-use Rattle.tracing.specs.Trace.{digit, decimal, hex2, hex4, space, wordOf, lineOf}
+use Rattle.tracing.specs.Trace.{digit, decimal, hex2, hex4, space, wordOf, coreOf, lineOf}
 
 record Short (t : List ℕ) (n : ℕ) : Type 0 where
   bound : length t ≤ n
@@ -49,9 +49,12 @@ decimal-short : (n : ℕ) → Short (decimal n) 5
 decimal-short n =
     _then_ (_then_ (_then_ (_then_ (digit-short n 10000) (digit-short n 1000)) (digit-short n 100)) (digit-short n 10)) (one _)
 
+core-short : (k : Core) → Short (coreOf k) 14
+core-short k =
+    _then_ (_then_ (_then_ (_then_ (_then_ (_then_ (four (k .pc)) (one 32)) (one _)) (one 32)) (two (k .sreg))) (one 32)) (four (k .sp))
+
 pub line-short : (number before : ℕ) (answer : Answer) (k : Core) → length (lineOf number before answer k) ≤ 36
 line-short number before answer k =
     let start = _then_ (_then_ (_then_ (_then_ (decimal-short number) (one 32)) (four before)) (one 32)) (word-short answer) in
-    let middle = _then_ (_then_ (_then_ (_then_ start (one 32)) (four (k .pc))) (one 32)) (one _) in
-    let line : Short (lineOf number before answer k) 36 = _then_ (_then_ (_then_ (_then_ (_then_ middle (one 32)) (two (k .sreg))) (one 32)) (four (k .sp))) (one 10) in
+    let line : Short (lineOf number before answer k) 36 = _then_ (_then_ (_then_ start (one 32)) (core-short k)) (one 10) in
     line .bound

@@ -2,7 +2,7 @@
 use mathlib.Core.Path.{_≡_}
 use mathlib.Core.Bool.{Bool, true, false, _||_}
 use mathlib.Core.List.{List, [], _∷_, _++_}
-use Prim.Native.Nat.{ℕ, zero, suc, _+_, _*_, _-_, _/_, _%_, _≤_, min}
+use Prim.Native.Nat.{ℕ, zero, suc, _+_, _*_, _/_, _%_, _≤_, min}
 use Prim.Native.Char.{code}
 use Prim.Native.String.{String, [] as end, _∷_ as then}
 use lib.Dec.{ltb, leb}
@@ -14,7 +14,6 @@ use Rattle.tick.specs.Tick.{refuses, stops, tickOf}
 use Rattle.tick.specs.declared.Offer.the-variants.{Nothing}
 use Rattle.tick.specs.declared.Answer.{Answer}
 use Rattle.tick.specs.declared.Answer.the-variants.{Refused, Waited, Entered, Ran, Sleep, Watchdog, Undefined, Break, End}
-use Rattle.tracing.specs.declared.line.Line.{Line}
 use Rattle.tracing.specs.declared.job.Job.{Job}
 use Rattle.tracing.specs.declared.job.Job.the-variants.{Bad, Trace}
 
@@ -70,11 +69,14 @@ wordOf End = text "end"
 abbrev pub space : List ℕ
 space = 32 ∷ []
 
--- "One line a tick, fields one space apart: decimal number from 1, PC before, word, PC after, busy, SREG, SP"; "Every line ends in LF."
+-- "fields one space apart": "PC after, busy, SREG, SP"
+abbrev pub coreOf : Core → List ℕ
+coreOf k = hex4 (k .pc) ++ space ++ ((48 + k .busy % 10) ∷ []) ++ space ++ hex2 (k .sreg) ++ space ++ hex4 (k .sp)
+
+-- "decimal number from 1, PC before, word" and the core after; "Every line ends in LF."
 abbrev pub lineOf : ℕ → ℕ → Answer → Core → List ℕ
 lineOf number before answer k =
-    decimal number ++ space ++ hex4 before ++ space ++ wordOf answer ++ space ++ hex4 (k .pc) ++ space
-    ++ ((48 + k .busy % 10) ∷ []) ++ space ++ hex2 (k .sreg) ++ space ++ hex4 (k .sp) ++ (10 ∷ [])
+    decimal number ++ space ++ hex4 before ++ space ++ wordOf answer ++ space ++ coreOf k ++ (10 ∷ [])
 
 -- ---- the program's text
 -- "It stops as a run does. One line a tick": the lines of at most so many ticks, the first of this number, from core k, with program p and data m
@@ -111,14 +113,6 @@ pub record Prints (t before : List ℕ) (n : ℕ) (after : List ℕ) : Type 0 wh
 abbrev pub WholeTrace : Type 0
 WholeTrace = (s d o : List ℕ) (n : ℕ) → Bytes s → 65535 * 36 ≤ length d → Prints (traceOf s) d n o → take n o ≡ traceOf s
 
--- ---- the code's line: the one that holds a text has zeros behind it
-abbrev pub holding : List ℕ → Line
-holding t = record { bytes = t ++ replicate (40 - length t) 0; len = length t }
-
--- from a line that holds a text, the one that holds it with more behind it, as far as that fits
-pub record Puts (l m : Line) (more : List ℕ) : Type 0 where
-  pub holds : (t : List ℕ) → length t ≤ 40 → l ≡ holding t → m ≡ holding (take 40 (t ++ more))
-
 -- ---- the code's buffer, and where the next byte goes
 pub record Page : Type 0 where
   pub bytes : List ℕ
@@ -134,3 +128,7 @@ withByte g b = page (set (g .bytes) (g .at) b) (pick (ltb (g .at) (length (g .by
 unfoldable pub withText : Page → List ℕ → Page
 withText g [] = g
 withText g (b ∷ t) = withText (withByte g b) t
+
+-- a page, a text, and the page with it
+pub record Puts (g : Page) (t : List ℕ) (h : Page) : Type 0 where
+  pub is : h ≡ withText g t

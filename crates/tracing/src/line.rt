@@ -1,104 +1,12 @@
-// A line of at most 40 bytes, built from its start; what does not fit is dropped, and no line of a tick is that long.
+// A tick's line, field by field into the buffer.
+use crate::page::put_byte;
+use crate::page::put_text;
 use cores::Core;
 use tick::Answer;
 ghost use mathlib.Core.Path.{_≡_};
 ghost use mathlib.Core.List.{[], _∷_};
-ghost use lib.ListN.{length};
-ghost use Prim.Native.Nat.{_+_, _%_, _≤_};
 ghost use Rattle.basis.specs.Pick.{pick};
-ghost use Rattle.tracing.specs.Trace.{holding, Puts, hexDigit, hex2, hex4, decimal, wordOf, lineOf};
-
-pub struct Line {
-    pub bytes: [u8; 40],
-    pub len: usize,
-}
-
-impl Line {
-    fn empty() -> Line
-        ensures { λ r. ⌜ r ≡ holding [] ⌝ }
-    {
-        Line {
-            bytes: [0u8; 40],
-            len: 0,
-        }
-    }
-
-    fn put(self, b: u8) -> Line
-        ensures { λ r. ⌜ Puts self r (b ∷ []) ⌝ }
-    {
-        let mut bytes = self.bytes;
-        let len = self.len;
-        if len < 40 {
-            bytes[len] = b;
-            Line {
-                bytes,
-                len: len + 1,
-            }
-        } else {
-            Line { bytes, len: 40 }
-        }
-    }
-
-    fn put_if(self, on: bool, b: u8) -> Line
-        ensures { λ r. ⌜ Puts self r (pick on (b ∷ []) []) ⌝ }
-    {
-        let bytes = self.bytes;
-        let len = self.len;
-        if on { self.put(b) } else { Line { bytes, len } }
-    }
-
-    fn put_text(self, text: &[u8]) -> Line
-        ensures { λ r. ⌜ Puts self r (now (text .entry)) ⌝ }
-    {
-        let bytes = self.bytes;
-        let len = self.len;
-        let mut line = Line { bytes, len };
-        let mut i = 0;
-        while i < text.len() {
-            line = line.put(text[i]);
-            i += 1;
-        }
-        line
-    }
-
-    fn put_hex2(self, x: u8) -> Line
-        ensures { λ r. ⌜ Puts self r (hex2 x) ⌝ }
-    {
-        self.put(hex_digit(x / 16)).put(hex_digit(x))
-    }
-
-    fn put_hex4(self, x: u16) -> Line
-        ensures { λ r. ⌜ Puts self r (hex4 x) ⌝ }
-    {
-        self.put_hex2((x / 256) as u8).put_hex2((x % 256) as u8)
-    }
-
-    fn put_decimal(self, n: u16) -> Line
-        ensures { λ r. ⌜ Puts self r (decimal n) ⌝ }
-    {
-        self.put_if(n >= 10000, 48 + (n / 10000 % 10) as u8)
-            .put_if(n >= 1000, 48 + (n / 1000 % 10) as u8)
-            .put_if(n >= 100, 48 + (n / 100 % 10) as u8)
-            .put_if(n >= 10, 48 + (n / 10 % 10) as u8)
-            .put(48 + (n % 10) as u8)
-    }
-
-    fn put_word(self, answer: Answer) -> Line
-        ensures { λ r. ⌜ Puts self r (wordOf answer) ⌝ }
-    {
-        match answer {
-            Answer::Refused(n) => self.put_text(b"refused-").put(48 + n % 10),
-            Answer::Waited => self.put_text(b"waited"),
-            Answer::Entered => self.put_text(b"entered"),
-            Answer::Ran => self.put_text(b"ran"),
-            Answer::Sleep => self.put_text(b"sleep"),
-            Answer::Watchdog => self.put_text(b"watchdog"),
-            Answer::Undefined => self.put_text(b"undefined"),
-            Answer::Break => self.put_text(b"break"),
-            Answer::End => self.put_text(b"end"),
-        }
-    }
-}
+ghost use Rattle.tracing.specs.Trace.{page, Puts, hexDigit, hex2, hex4, decimal, wordOf, coreOf, lineOf};
 
 // A digit 0 to 9, A to F, of the low four bits.
 fn hex_digit(x: u8) -> u8
@@ -108,24 +16,85 @@ fn hex_digit(x: u8) -> u8
     if d < 10 { 48 + d } else { 55 + d }
 }
 
-// The line of a tick: its number, PC before, the answer's word, PC after, busy, SREG, SP.
-pub fn line_of(number: u16, before: u16, answer: Answer, core: Core) -> Line
-    ensures { λ r. ⌜ r ≡ holding (lineOf number before answer core) ⌝ }
-    ensures { λ r. ⌜ r .len ≤ 40 ⌝ }
+fn put_hex2(out: &mut [u8], at: usize, x: u8) -> usize
+    ensures { λ n. ⌜ Puts (page (now (out .entry)) at) (hex2 x) (page (now (out .exit)) n) ⌝ }
 {
-    let line = Line::empty()
-        .put_decimal(number)
-        .put(b' ')
-        .put_hex4(before)
-        .put(b' ')
-        .put_word(answer);
-    let line = line.put(b' ')
-        .put_hex4(core.pc)
-        .put(b' ')
-        .put(48 + core.busy % 10);
-    line.put(b' ')
-        .put_hex2(core.sreg)
-        .put(b' ')
-        .put_hex4(core.sp)
-        .put(b'\n')
+    let at = put_byte(out, at, hex_digit(x / 16));
+    put_byte(out, at, hex_digit(x))
+}
+
+fn put_hex4(out: &mut [u8], at: usize, x: u16) -> usize
+    ensures { λ n. ⌜ Puts (page (now (out .entry)) at) (hex4 x) (page (now (out .exit)) n) ⌝ }
+{
+    let at = put_hex2(out, at, (x / 256) as u8);
+    put_hex2(out, at, (x % 256) as u8)
+}
+
+fn put_if(out: &mut [u8], at: usize, on: bool, b: u8) -> usize
+    ensures { λ n. ⌜ Puts (page (now (out .entry)) at) (pick on (b ∷ []) []) (page (now (out .exit)) n) ⌝ }
+{
+    if on { put_byte(out, at, b) } else { at }
+}
+
+fn put_decimal(out: &mut [u8], at: usize, x: u16) -> usize
+    ensures { λ n. ⌜ Puts (page (now (out .entry)) at) (decimal x) (page (now (out .exit)) n) ⌝ }
+{
+    let at = put_if(out, at, x >= 10000, 48 + (x / 10000 % 10) as u8);
+    let at = put_if(out, at, x >= 1000, 48 + (x / 1000 % 10) as u8);
+    let at = put_if(out, at, x >= 100, 48 + (x / 100 % 10) as u8);
+    let at = put_if(out, at, x >= 10, 48 + (x / 10 % 10) as u8);
+    put_byte(out, at, 48 + (x % 10) as u8)
+}
+
+fn put_word(out: &mut [u8], at: usize, answer: Answer) -> usize
+    ensures { λ n. ⌜ Puts (page (now (out .entry)) at) (wordOf answer) (page (now (out .exit)) n) ⌝ }
+{
+    match answer {
+        Answer::Refused(n) => {
+            let at = put_text(out, at, b"refused-");
+            put_byte(out, at, 48 + n % 10)
+        }
+        Answer::Waited => put_text(out, at, b"waited"),
+        Answer::Entered => put_text(out, at, b"entered"),
+        Answer::Ran => put_text(out, at, b"ran"),
+        Answer::Sleep => put_text(out, at, b"sleep"),
+        Answer::Watchdog => put_text(out, at, b"watchdog"),
+        Answer::Undefined => put_text(out, at, b"undefined"),
+        Answer::Break => put_text(out, at, b"break"),
+        Answer::End => put_text(out, at, b"end"),
+    }
+}
+
+// PC, busy, SREG, SP.
+fn put_core(out: &mut [u8], at: usize, core: Core) -> usize
+    ensures { λ n. ⌜ Puts (page (now (out .entry)) at) (coreOf core) (page (now (out .exit)) n) ⌝ }
+{
+    let at = put_hex4(out, at, core.pc);
+    let at = put_byte(out, at, b' ');
+    let at = put_byte(out, at, 48 + core.busy % 10);
+    let at = put_byte(out, at, b' ');
+    let at = put_hex2(out, at, core.sreg);
+    let at = put_byte(out, at, b' ');
+    put_hex4(out, at, core.sp)
+}
+
+// The line of a tick: its number, PC before, the answer's word, the core after.
+pub fn put_line(
+    out: &mut [u8],
+    at: usize,
+    number: u16,
+    before: u16,
+    answer: Answer,
+    core: Core,
+) -> usize
+    ensures { λ n. ⌜ Puts (page (now (out .entry)) at) (lineOf number before answer core) (page (now (out .exit)) n) ⌝ }
+{
+    let at = put_decimal(out, at, number);
+    let at = put_byte(out, at, b' ');
+    let at = put_hex4(out, at, before);
+    let at = put_byte(out, at, b' ');
+    let at = put_word(out, at, answer);
+    let at = put_byte(out, at, b' ');
+    let at = put_core(out, at, core);
+    put_byte(out, at, b'\n')
 }

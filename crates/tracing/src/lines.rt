@@ -1,29 +1,12 @@
 // The lines of a run from the fresh core, over data of 16,384 zeros and no offer.
+use crate::line::put_line;
 use cores::Core;
-use tick::Answer;
 use tick::Offer;
-ghost use mathlib.Core.Path.{_≡_};
-ghost use Rattle.tracing.specs.Trace.{page, withText, lineOf, ticksOf};
-
-fn put_line(
-    out: &mut [u8],
-    at: usize,
-    number: u16,
-    before: u16,
-    answer: Answer,
-    core: Core,
-) -> usize
-    ensures { λ n. ⌜ page (now (out .exit)) n ≡ withText (page (now (out .entry)) at) (lineOf number before answer core) ⌝ }
-{
-    let line = crate::line::line_of(number, before, answer, core);
-    let bytes = line.bytes;
-    let len = line.len;
-    crate::page::put_text(out, at, &bytes[..len])
-}
+ghost use Rattle.tracing.specs.Trace.{page, Puts, ticksOf};
 
 // From the buffer's start on; where the last line ends.
 pub fn put_lines(out: &mut [u8], program: &[u8], sp: u16, budget: u16) -> usize
-    ensures { λ n. ⌜ page (now (out .exit)) n ≡ withText (page (now (out .entry)) 0) (ticksOf sp budget (now (program .entry))) ⌝ }
+    ensures { λ n. ⌜ Puts (page (now (out .entry)) 0) (ticksOf sp budget (now (program .entry))) (page (now (out .exit)) n) ⌝ }
 {
     let mut data = [0u8; 16384];
     let mut core = Core::fresh(sp);

@@ -1,10 +1,9 @@
 // A lent buffer that a text is put into, from `at` on; what does not fit is dropped. Each hands back where the text ends.
-ghost use mathlib.Core.Path.{_≡_};
 ghost use mathlib.Core.List.{[], _∷_};
-ghost use Rattle.tracing.specs.Trace.{page, withText};
+ghost use Rattle.tracing.specs.Trace.{page, Puts};
 
 pub fn put_byte(out: &mut [u8], at: usize, b: u8) -> usize
-    ensures { λ n. ⌜ page (now (out .exit)) n ≡ withText (page (now (out .entry)) at) (b ∷ []) ⌝ }
+    ensures { λ n. ⌜ Puts (page (now (out .entry)) at) (b ∷ []) (page (now (out .exit)) n) ⌝ }
 {
     if at < out.len() {
         out[at] = b;
@@ -15,7 +14,7 @@ pub fn put_byte(out: &mut [u8], at: usize, b: u8) -> usize
 }
 
 pub fn put_text(out: &mut [u8], at: usize, text: &[u8]) -> usize
-    ensures { λ n. ⌜ page (now (out .exit)) n ≡ withText (page (now (out .entry)) at) (now (text .entry)) ⌝ }
+    ensures { λ n. ⌜ Puts (page (now (out .entry)) at) (now (text .entry)) (page (now (out .exit)) n) ⌝ }
 {
     let mut end = at;
     let mut i: usize = 0;

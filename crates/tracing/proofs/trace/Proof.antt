@@ -7,12 +7,12 @@ use native.Mathlib.Omega.{arith}
 use lib.ListN.{length}
 use borrow.Author.Needs.{needs}
 use Rattle.tracing.specs.declared.job.Job.{Job}
-use Rattle.tracing.specs.Trace.{Within, jobOf, textOf, traceOf, page, withText, Prints}
+use Rattle.tracing.specs.Trace.{Within, jobOf, textOf, traceOf, page, Puts, Prints}
 use Rattle.tracing.proofs.Laid.{prints}
 use Rattle.tracing.proofs.trace.Statement.{statement}
 use Rattle.tracing.proofs.trace.Tie as tie
 
-asked : (s d : List ℕ) (n : ℕ) (o : List ℕ) (j k : Job) → k ≡ jobOf s → k ≡ j → page o n ≡ withText (page d 0) (textOf j s) → Prints (traceOf s) d n o
+asked : (s d : List ℕ) (n : ℕ) (o : List ℕ) (j k : Job) → k ≡ jobOf s → k ≡ j → Puts (page d 0) (textOf j s) (page o n) → Prints (traceOf s) d n o
 asked s d n o j k is told e = subst (λ (j : Job). Prints (textOf j s) d n o) (sym told ∙ is) (prints e)
 
 pub trace-spec : {M : Type 1} → statement M

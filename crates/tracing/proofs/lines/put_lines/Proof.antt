@@ -38,8 +38,10 @@ put-lines-spec =
     let t = c .before .before .before .before .before .before .before .before .before in
     let l = t .before .before .before .loop in
     let a = t .before .before .before .before .before .before .before .args in
-    rw (l .inv .1 .1 .1) (sym (ends (a .budget) (l .number) (l .core) (a .program .now) (l .«data») (page (l .out) (l .at)) _ _ _
-    (t .before .before .loop-test .taken) (t .tick .ensures) (c .before .before .before .before .before .put-line .ensures) (rw (← c .before .before .refuses .ensures, ← c .before .stops .ensures) (c .if1 .taken)))))
+    record {
+      is = rw (l .inv .1 .1 .1) (sym (ends (a .budget) (l .number) (l .core) (a .program .now) (l .«data») (page (l .out) (l .at)) _ _ _
+          (t .before .before .loop-test .taken) (t .tick .ensures) (c .before .before .before .before .before .put-line .ensures) (rw (← c .before .before .refuses .ensures, ← c .before .stops .ensures) (c .if1 .taken))));
+    })
     (λ c. search needs)
     (λ c.
     let t = c .before .before .before .before .before .before .before .before .before in
@@ -59,4 +61,4 @@ put-lines-spec =
     (λ c.
     let l = c .before .loop in
     let a = c .before .before .before .before .before .args in
-    rw (l .inv .1 .1 .1) (sym (spent (a .budget) (l .number) (l .core) (a .program .now) (l .«data») (page (l .out) (l .at)) (c .loop-test .left)))))
+    record { is = rw (l .inv .1 .1 .1) (sym (spent (a .budget) (l .number) (l .core) (a .program .now) (l .«data») (page (l .out) (l .at)) (c .loop-test .left))) }))

@@ -14,5 +14,5 @@ put-byte-spec =
     (λ c. search needs)
     (λ c. search needs)
     (λ c. search needs)
-    (λ c. rw (one-byte, lt-ltb _ _ (c .if1 .taken)))
-    (λ c. rw (one-byte, le-ltb _ _ (c .if1 .left), set-out _ _ _ (c .if1 .left))))
+    (λ c. record { is = rw (one-byte, lt-ltb _ _ (c .if1 .taken)) })
+    (λ c. record { is = rw (one-byte, le-ltb _ _ (c .if1 .left), set-out _ _ _ (c .if1 .left)) }))
