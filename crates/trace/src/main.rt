@@ -1,6 +1,11 @@
-// Prints the trace of the image on standard input: P is at most 49,152, and no trace is longer than 65,535 lines of 36 bytes.
+// Prints the trace of the image on standard input.
 use libc::STDIN_FILENO;
 use libc::STDOUT_FILENO;
+
+// Three numbers and the longest program.
+const IMAGE: usize = 6 + 49152;
+// The longest trace: a line for each tick of the largest budget.
+const TEXT: usize = 65535 * 36;
 
 fn print(input: &mut [u8], out: &mut [u8]) {
     let size = io::read_full(STDIN_FILENO, input);
@@ -9,7 +14,7 @@ fn print(input: &mut [u8], out: &mut [u8]) {
 }
 
 fn main() {
-    let mut input = [0u8; 49158];
-    let mut out = [0u8; 2359260];
+    let mut input = [0u8; IMAGE];
+    let mut out = [0u8; TEXT];
     print(&mut input, &mut out);
 }

@@ -7,6 +7,7 @@ use native.Mathlib.Omega.{arith}
 use lib.ListN.{length}
 use borrow.Author.Needs.{needs}
 use Rattle.tracing.specs.declared.job.Job.{Job}
+use Rattle.tracing.specs.declared.job.Job.the-variants.{Trace}
 use Rattle.tracing.specs.Trace.{Within, jobOf, textOf, traceOf, page, Puts, Prints}
 use Rattle.tracing.proofs.Laid.{prints}
 use Rattle.tracing.proofs.trace.Statement.{statement}
@@ -14,6 +15,9 @@ use Rattle.tracing.proofs.trace.Tie as tie
 
 asked : (s d : List ℕ) (n : ℕ) (o : List ℕ) (j k : Job) → k ≡ jobOf s → k ≡ j → Puts (page d 0) (textOf j s) (page o n) → Prints (traceOf s) d n o
 asked s d n o j k is told e = subst (λ (j : Job). Prints (textOf j s) d n o) (sym told ∙ is) (prints e)
+
+lies : (s : List ℕ) (size sp budget : ℕ) (k : Job) → Within k s → k ≡ Trace size sp budget → size + 6 ≤ length s
+lies s size sp budget k w told = subst (λ (j : Job). Within j s) told w
 
 pub trace-spec : {M : Type 1} → statement M
 trace-spec =
@@ -26,15 +30,13 @@ trace-spec =
     (λ c. search needs)
     (λ c.
     let d = c .before .before .before .before in
-    let input = d .before .before .before .args .input .now in
-    let h : c .before .before .size .given .0 .0 + 6 ≤ length input = subst (λ (j : Job). Within j input) (c .before .before .size .given .1) (d .job-of .ensures .1) in
+    let h = lies (d .before .before .before .args .input .now) _ _ _ _ (d .job-of .ensures .1) (c .before .before .size .given .1) in
     search needs)
     (λ c. search needs)
     (λ c. search needs)
     (λ c.
     let d = c .before .before .before .before in
-    let input = d .before .before .before .args .input .now in
-    let h : c .before .before .size .given .0 .0 + 6 ≤ length input = subst (λ (j : Job). Within j input) (c .before .before .size .given .1) (d .job-of .ensures .1) in
+    let h = lies (d .before .before .before .args .input .now) _ _ _ _ (d .job-of .ensures .1) (c .before .before .size .given .1) in
     search needs)
     (λ c κs. search needs)
     (λ c. search needs)

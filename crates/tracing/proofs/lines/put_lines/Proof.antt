@@ -46,17 +46,10 @@ put-lines-spec =
     (λ c.
     let t = c .before .before .before .before .before .before .before .before .before in
     let l = t .before .before .before .loop in
-    let a = t .before .before .before .before .before .before .before .args in (
-      search needs,
-      (
-        search needs,
-        (
-          search needs,
-          rw (l .inv .1 .1 .1) (goes-on (a .budget) (l .number) (l .core) (a .program .now) (l .«data») (page (l .out) (l .at)) _ _ _
-              (t .before .before .loop-test .taken) (t .tick .ensures) (c .before .before .before .before .before .put-line .ensures) (rw (← c .before .before .refuses .ensures, ← c .before .stops .ensures) (c .if1 .left))),
-        ),
-      ),
-    ))
+    let a = t .before .before .before .before .before .before .before .args in
+    let rest = goes-on (a .budget) (l .number) (l .core) (a .program .now) (l .«data») (page (l .out) (l .at)) _ _ _
+    (t .before .before .loop-test .taken) (t .tick .ensures) (c .before .before .before .before .before .put-line .ensures) (rw (← c .before .before .refuses .ensures, ← c .before .stops .ensures) (c .if1 .left)) in
+    (search needs, (search needs, (search needs, rw (l .inv .1 .1 .1) rest))))
     (λ c. search needs)
     (λ c.
     let l = c .before .loop in
