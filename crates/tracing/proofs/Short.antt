@@ -10,7 +10,7 @@ use Rattle.basis.specs.Pick.{pick}
 use Rattle.cores.specs.declared.Core.{Core}
 use Rattle.tick.specs.declared.Answer.{Answer}
 use Rattle.tick.specs.declared.Answer.the-variants.{Refused, Waited, Entered, Ran, Sleep, Watchdog, Undefined, Break, End}
-use Rattle.tracing.specs.Trace.{digit, decimal, hex2, hex4, space, wordOf, coreOf, lineOf}
+use Rattle.tracing.specs.Trace.{digit, decimal, hex2, hex4, wordOf, coreOf, lineOf}
 
 record Short (t : List ℕ) (n : ℕ) : Type 0 where
   bound : length t ≤ n

@@ -18,7 +18,7 @@ use Rattle.tracing.specs.Trace.{wordIn, lineOf, linesOf, zeros, textOf, 
 use Rattle.tracing.proofs.Short.{line-short}
 
 more : (stop : Bool) (line rest : List ℕ) (b : ℕ) → length line ≤ 36 → length rest ≤ b * 36
-    → length (line ++ elim stop [ true ↦ [] | false ↦ rest ]) ≤ suc b * 36
+    → length (line ++ pick stop [] rest) ≤ suc b * 36
 more true line rest b h g = rw length-append (omega arith)
 more false line rest b h g = rw length-append (omega arith)
 

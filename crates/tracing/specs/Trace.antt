@@ -1,6 +1,6 @@
 -- 01, "Program `trace`".
 use mathlib.Core.Path.{_≡_}
-use mathlib.Core.Bool.{Bool, true, false, _||_}
+use mathlib.Core.Bool.{_||_}
 use mathlib.Core.List.{List, [], _∷_, _++_}
 use Prim.Native.Nat.{ℕ, zero, suc, _+_, _*_, _/_, _%_, _≤_, min}
 use Prim.Native.Char.{code}
@@ -26,11 +26,6 @@ abbrev pub jobOf : List ℕ → Job
 jobOf s =
     let size = wordIn s 0 in
     pick (ltb 49152 size) Bad (pick (ltb (length s) (size + 6)) Bad (Trace size (wordIn s 2) (wordIn s 4)))
-
--- a job's program lies in the input
-abbrev pub Within : Job → List ℕ → Type 0
-Within Bad s = 0 ≤ length s
-Within (Trace size sp budget) s = size + 6 ≤ length s
 
 -- ---- texts, as the codes of their characters
 abbrev pub text : String → List ℕ
@@ -85,7 +80,7 @@ linesOf zero number k p m = []
 linesOf (suc left) number k p m =
     let t = tickOf k p m Nothing in
     lineOf number (k .pc) (t .answer) (t .core)
-    ++ elim (refuses (t .answer) || stops (t .answer)) [ true ↦ [] | false ↦ linesOf left (number + 1) (t .core) p (t .bytes) ]
+    ++ pick (refuses (t .answer) || stops (t .answer)) [] (linesOf left (number + 1) (t .core) p (t .bytes))
 
 -- "Data is 16,384 zeros; no offer."
 unfoldable pub zeros : List ℕ

@@ -2,7 +2,7 @@
 ghost use mathlib.Core.Path.{_≡_};
 ghost use Prim.Native.Nat.{_+_, _*_};
 ghost use lib.ListN.{getD};
-ghost use Rattle.tracing.specs.Trace.{jobOf, Within};
+ghost use Rattle.tracing.specs.Trace.{jobOf};
 
 pub enum Job {
     Bad,
@@ -11,7 +11,6 @@ pub enum Job {
 
 pub fn job_of(input: &[u8]) -> Job
     ensures { λ j. ⌜ j ≡ jobOf (now (input .entry)) ⌝ }
-    ensures { λ j. ⌜ Within j (now (input .entry)) ⌝ }
 {
     let size = word(input, 0) as usize;
     if size > 49152 {

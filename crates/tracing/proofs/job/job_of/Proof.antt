@@ -1,6 +1,5 @@
 -- `job_of`: the two checks, then the three numbers.
 -- Assumes nothing.
-use native.Mathlib.Omega.{arith}
 use borrow.Author.Needs.{needs}
 use borrow.Author.Tests.{lt-ltb, le-ltb}
 use Rattle.tracing.proofs.job.job_of.Statement.{statement}
@@ -12,13 +11,10 @@ job-of-spec =
     (tie.spec
     (λ c κs. search needs)
     (λ c. search needs)
-    (λ c. (rw (← c .before .word .ensures, lt-ltb _ _ (c .if1 .taken)), omega arith))
+    (λ c. rw (← c .before .word .ensures, lt-ltb _ _ (c .if1 .taken)))
     (λ c. search needs)
-    (λ c. (rw (← c .before .before .word .ensures, le-ltb _ _ (c .before .if1 .left), lt-ltb _ _ (c .if2 .taken)), omega arith))
+    (λ c. rw (← c .before .before .word .ensures, le-ltb _ _ (c .before .if1 .left), lt-ltb _ _ (c .if2 .taken)))
     (λ c κs. search needs)
     (λ c κs. search needs)
     (λ c.
-    let short = c .before .before .if2 .left in (
-      rw (← c .before .before .before .before .word .ensures, le-ltb _ _ (c .before .before .before .if1 .left), le-ltb _ _ short, ← c .before .word2 .ensures, ← c .word3 .ensures),
-      short,
-    )))
+    rw (← c .before .before .before .before .word .ensures, le-ltb _ _ (c .before .before .before .if1 .left), le-ltb _ _ (c .before .before .if2 .left), ← c .before .word2 .ensures, ← c .word3 .ensures)))
