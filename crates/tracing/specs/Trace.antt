@@ -32,6 +32,10 @@ abbrev pub text : String → List ℕ
 text end = []
 text (then c t) = code c ∷ text t
 
+-- "Every line ends in LF."
+abbrev pub line : String → List ℕ
+line t = text t ++ (10 ∷ [])
+
 -- "PC and SP four hex digits, SREG two": capitals
 abbrev pub hexDigit : ℕ → ℕ
 hexDigit x = let d = x % 16 in pick (ltb d 10) (48 + d) (55 + d)
@@ -92,7 +96,7 @@ ticksOf sp budget p = linesOf budget 1 (freshOf sp) p zeros
 
 -- "then P bytes; the rest is ignored."
 abbrev pub textOf : Job → List ℕ → List ℕ
-textOf Bad s = text "bad input" ++ (10 ∷ [])
+textOf Bad s = line "bad input"
 textOf (Trace size sp budget) s = ticksOf sp budget (take size (drop 6 s))
 
 -- all that the program prints for an input
@@ -103,6 +107,12 @@ traceOf s = textOf (jobOf s) s
 pub record Prints (t before : List ℕ) (n : ℕ) (after : List ℕ) : Type 0 where
   pub count : n ≡ min (length t) (length before)
   pub bytes : after ≡ take (length before) t ++ drop (length t) before
+
+-- 01's example, proved in proofs/Example.antt
+abbrev pub Example : Type 0
+Example =
+    traceOf (0x00 ∷ 0x06 ∷ 0x3F ∷ 0xFF ∷ 0x00 ∷ 0x0A ∷ 0x05 ∷ 0xE0 ∷ 0x01 ∷ 0x96 ∷ 0x98 ∷ 0x95 ∷ [])
+    ≡ line "1 0000 ran 0001 0 00 3FFF" ++ line "2 0001 ran 0002 1 00 3FFF" ++ line "3 0002 waited 0002 0 00 3FFF" ++ line "4 0002 break 0003 0 00 3FFF"
 
 -- the theorem, proved in proofs/Whole.antt: a buffer for 65,535 lines of 36 bytes takes the whole of every trace
 abbrev pub WholeTrace : Type 0
