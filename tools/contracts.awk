@@ -25,7 +25,7 @@ function law(text) {
     if (text ~ /^[a-z_]+(′)? ≡ /) return "equation"
     if (text ~ /^Ticks .*inPlace/) return "ticks-in-place"
     if (text ~ /^TellsTicks /) return "tells-ticks"
-    if (text ~ /^(Leaves|Executes|Ticks|Runs|Writes|Tells) /) { sub(/ .*/, "", text); return tolower(text) }
+    if (text ~ /^(Leaves|Executes|Ticks|Runs|Writes|Tells|Prints) /) { sub(/ .*/, "", text); return tolower(text) }
     return ""
 }
 

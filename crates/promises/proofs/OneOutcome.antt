@@ -48,4 +48,5 @@ one-outcome =
       tells = λ o x y e f. three (equation (e .number) (f .number)) (equation (e .snapshot) (f .snapshot)) (equation (e .bytes) (f .bytes));
       tells-ticks =
           λ o x y e f. four (equation (e .number) (f .number)) (equation (e .snapshot) (f .snapshot)) (equation (e .bytes) (f .bytes)) (equation (e .ticks) (f .ticks));
+      prints = λ t o x y e f. two (equation (e .count) (f .count)) (equation (e .bytes) (f .bytes));
     }

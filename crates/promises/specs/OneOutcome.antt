@@ -1,4 +1,4 @@
--- 01: "Prove that two outcomes meeting one contract are the same." Every public function's contract is one of these eight; docs/CONTRACTS.md says which is whose.
+-- 01: "Prove that two outcomes meeting one contract are the same." Every public function's contract is one of these nine kinds; docs/CONTRACTS.md says which is whose.
 use mathlib.Core.Path.{_≡_}
 use mathlib.Core.List.{List}
 use Prim.Native.Nat.{ℕ}
@@ -13,6 +13,7 @@ use Rattle.run.specs.declared.Ran.{Ran}
 use Rattle.run.specs.Run.{Run, Runs}
 use Rattle.snapshot.specs.Snapshot.{Written, Writes}
 use Rattle.host.specs.Host.{Told, Tells, ToldTicks, TellsTicks}
+use Rattle.tracing.specs.Trace.{Prints}
 
 -- whatever meets a contract is one outcome
 abbrev pub One : {A : Type 0} → (A → Type 0) → Type 0
@@ -32,3 +33,4 @@ pub record OneOutcome : Type 1 where
   pub writes : (w : Written) → One (λ (x : ℕ × List ℕ). Writes w (x .0) (x .1))
   pub tells : (t : Told) → One (λ (x : ℕ × List ℕ × List ℕ). Tells t (x .0) (x .1) (x .2))
   pub tells-ticks : (t : ToldTicks) → One (λ (x : ℕ × List ℕ × List ℕ × ℕ). TellsTicks t (x .0) (x .1) (x .2) (x .3))
+  pub prints : (text before : List ℕ) → One (λ (x : ℕ × List ℕ). Prints text before (x .0) (x .1))
