@@ -73,6 +73,6 @@ pub record Demand3 : Type 0 where
   pub no-trace : InterruptsLeaveNoTrace
   pub no-trace-at-the-end : NoTraceAtTheEnd
   pub three-waits : ThreeWaitsAfterReti
-  -- Stamps.antt: the two time stamps of the story, an interrupt at every place between; and what a handler that loses a flag does to them
+  -- Stamps.antt: the two time stamps of the story, an interrupt between CP and CPC; and what a handler that loses a flag does to them
   pub stamps : StampsInOrder
   pub flag-lost : FlagLost
