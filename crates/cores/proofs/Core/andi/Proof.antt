@@ -10,4 +10,4 @@ andi-spec =
     (tie.spec
     (λ c κs. search needs)
     (λ c κs. search needs)
-    (λ c. cc))
+    (λ c. rw (c .put-result .ensures, c .before .get-register .ensures)))

@@ -12,4 +12,4 @@ bld-spec =
     (λ c κs. search needs)
     (λ c κs. search needs)
     (λ c κs. search needs)
-    (λ c. cc))
+    (λ c. rw (c .put-register .ensures, c .before .with-bit .ensures, c .before .before .get-register .ensures, c .before .before .before .get-sreg-bit .ensures)))

@@ -11,4 +11,4 @@ bst-spec =
     (λ c κs. search needs)
     (λ c κs. search needs)
     (λ c κs. search needs)
-    (λ c. cc))
+    (λ c. rw (c .set-sreg-bit .ensures, c .before .bit .ensures, c .before .before .get-register .ensures)))

@@ -10,4 +10,4 @@ cp-spec =
     (tie.spec
     (λ c κs. search needs)
     (λ c κs. search needs)
-    (λ c. cc))
+    (λ c. rw (c .cpi .ensures, c .before .get-register .ensures)))

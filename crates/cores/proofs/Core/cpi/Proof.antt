@@ -11,4 +11,4 @@ cpi-spec =
     (λ c κs. search needs)
     (λ c κs. search needs)
     (λ c κs. search needs)
-    (λ c. cc))
+    (λ c. rw (c .compare .ensures, c .before .before .minus .ensures, c .before .before .before .get-register .ensures)))

@@ -14,4 +14,4 @@ fmul-spec =
     (λ c. search needs)
     (λ c κs. search needs)
     (λ c κs. search needs)
-    (λ c. cc))
+    (λ c. rw (c .put-fraction .ensures, c .before .product .ensures, c .before .before .get-register2 .ensures, c .before .before .before .get-register .ensures)))

@@ -10,4 +10,4 @@ ijmp-spec =
     (tie.spec
     (λ c κs. search needs)
     (λ c κs. search needs)
-    (λ c. cc))
+    (λ c. rw (c .jump .ensures, c .before .get-register-word .ensures)))

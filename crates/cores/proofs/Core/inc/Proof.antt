@@ -11,4 +11,4 @@ inc-spec =
     (λ c κs. search needs)
     (λ c κs. search needs)
     (λ c κs. search needs)
-    (λ c. cc))
+    (λ c. rw (c .put-result .ensures, c .before .wrapping-add-u8 .ensures, c .before .before .get-register .ensures)))

@@ -10,4 +10,4 @@ mov-spec =
     (tie.spec
     (λ c κs. search needs)
     (λ c κs. search needs)
-    (λ c. cc))
+    (λ c. rw (c .put-register .ensures, c .before .get-register .ensures)))

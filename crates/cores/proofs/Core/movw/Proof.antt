@@ -10,4 +10,4 @@ movw-spec =
     (tie.spec
     (λ c κs. search needs)
     (λ c κs. search needs)
-    (λ c. cc))
+    (λ c. rw (c .set-register-word .ensures, c .before .get-register-word .ensures)))

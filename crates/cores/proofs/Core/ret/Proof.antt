@@ -20,4 +20,4 @@ ret-spec =
     (λ c. search needs)
     (λ c. search needs)
     (λ c. search needs)
-    (λ c. cc))
+    (λ c. rw (c .read2 .ensures, c .before .before .wrapping-add-u162 .ensures, c .before .before .before .read .ensures, c .before .before .before .before .wrapping-add-u16 .ensures)))

@@ -10,4 +10,4 @@ rjmp-spec =
     (tie.spec
     (λ c κs. search needs)
     (λ c κs. search needs)
-    (λ c. cc))
+    (λ c. rw (c .jump .ensures, c .before .wrapping-add-u16 .ensures)))

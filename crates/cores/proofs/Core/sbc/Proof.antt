@@ -10,4 +10,4 @@ sbc-spec =
     (tie.spec
     (λ c κs. search needs)
     (λ c κs. search needs)
-    (λ c. cc))
+    (λ c. rw (c .sbci .ensures, c .before .get-register .ensures)))

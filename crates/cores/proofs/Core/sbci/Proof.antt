@@ -13,4 +13,4 @@ sbci-spec =
     (λ c κs. search needs)
     (λ c κs. search needs)
     (λ c κs. search needs)
-    (λ c. cc))
+    (λ c. rw (c .put-sum .ensures, c .before .before .get-sreg-bit2 .ensures, c .before .before .before .minus .ensures, c .before .before .before .before .get-sreg-bit .ensures, c .before .before .before .before .before .get-register .ensures)))

@@ -10,4 +10,4 @@ sub-spec =
     (tie.spec
     (λ c κs. search needs)
     (λ c κs. search needs)
-    (λ c. cc))
+    (λ c. rw (c .subi .ensures, c .before .get-register .ensures)))

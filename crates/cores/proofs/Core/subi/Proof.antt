@@ -11,4 +11,4 @@ subi-spec =
     (λ c κs. search needs)
     (λ c κs. search needs)
     (λ c κs. search needs)
-    (λ c. cc))
+    (λ c. rw (c .put-sum .ensures, c .before .before .minus .ensures, c .before .before .before .get-register .ensures)))

@@ -12,4 +12,4 @@ swap-spec =
     (λ c. search needs)
     (λ c. search needs)
     (λ c κs. search needs)
-    (λ c. cc))
+    (λ c. rw (c .put-register .ensures, c .before .get-register .ensures)))
