@@ -10,4 +10,4 @@ byte-refusal-spec =
     (tie.spec
     (λ c κs. search needs)
     (λ c κs. search needs)
-    (λ c. cc))
+    (λ c. rw (c .lowest .ensures, c .before .has .ensures)))

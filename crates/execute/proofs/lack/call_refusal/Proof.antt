@@ -11,4 +11,4 @@ call-refusal-spec =
     (λ c. search needs)
     (λ c κs. search needs)
     (λ c κs. search needs)
-    (λ c. cc))
+    (λ c. rw (c .lowest .ensures, c .before .has .ensures)))

@@ -11,4 +11,4 @@ cpse-refusal-spec =
     (λ c κs. search needs)
     (λ c κs. search needs)
     (λ c κs. search needs)
-    (λ c. cc))
+    (λ c. rw (c .skip-refusal .ensures, c .before .get-register2 .ensures, c .before .before .get-register .ensures)))

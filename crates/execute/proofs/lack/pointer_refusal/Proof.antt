@@ -13,4 +13,4 @@ pointer-refusal-spec =
     (λ c. search needs)
     (λ c κs. search needs)
     (λ c κs. search needs)
-    (λ c. cc))
+    (λ c. rw (c .lowest .ensures, c .before .in-data-space .ensures, c .before .before .pointed .ensures)))

@@ -12,4 +12,4 @@ sbix-refusal-spec =
     (λ c κs. search needs)
     (λ c κs. search needs)
     (λ c κs. search needs)
-    (λ c. cc))
+    (λ c. rw (c .skip-refusal .ensures, c .before .bit .ensures, c .before .before .read .ensures, c .before .before .before .has .ensures)))

@@ -11,4 +11,4 @@ sbrx-refusal-spec =
     (λ c κs. search needs)
     (λ c κs. search needs)
     (λ c κs. search needs)
-    (λ c. cc))
+    (λ c. rw (c .skip-refusal .ensures, c .before .bit .ensures, c .before .before .get-register .ensures)))
