@@ -1,13 +1,14 @@
--- Data space at an address that is neither SREG nor a byte of SP: the byte of data itself.
+-- Data space at an address that is neither SREG nor a byte of SP: the byte of data itself. At any address a store keeps the registers.
 -- Assumes nothing.
-use mathlib.Core.Path.{_≡_}
+use mathlib.Core.Path.{_≡_, refl}
 use mathlib.Core.List.{List}
 use Prim.Native.Nat.{ℕ}
-use lib.Dec.{ltb}
+use lib.Dec.{eqb, ltb}
 use lib.ListN.{getD, set}
 use borrow.Author.Tests.{ne-eqb}
+use Rattle.basis.proofs.Choice.{either}
 use Rattle.cores.specs.declared.Core.{Core}
-use Rattle.cores.specs.State.{out}
+use Rattle.cores.specs.State.{Out, out, withSp}
 use Rattle.cores.specs.Transfer.{reachOf, dataOf, setDataOf}
 
 -- as a `match` on 0x3F, 0x3E and 0x3D has it in its last arm
@@ -26,3 +27,9 @@ module _ (at : ℕ) (h : Elsewhere at) where
   pub set-data-elsewhere : (k : Core) (v : ℕ) (m : List ℕ) → setDataOf k at v m ≡ out k (set m at v)
   unfolding setDataOf
   set-data-elsewhere k v m = rw (ne-eqb at 0x3F (h .0 .0 .1), ne-eqb at 0x3E (h .0 .1), ne-eqb at 0x3D (h .1))
+
+pub store-regs : (k : Core) (at v : ℕ) (m : List ℕ) → setDataOf k at v m .core .regs ≡ k .regs
+unfolding setDataOf withSp
+store-regs k at v m =
+    let P : Out → Type 0 = λ o. o .core .regs ≡ k .regs in
+    either P (eqb at 0x3F) _ _ refl (either P (eqb at 0x3E) _ _ refl (either P (eqb at 0x3D) _ _ refl refl))
