@@ -1,8 +1,8 @@
--- Results and flags stay bytes, words stay words.
+-- Results and flags stay bytes.
 -- Assumes nothing.
 use mathlib.Core.Bool.{Bool, not, Bool·beq}
 use mathlib.Core.List.{List, [], _∷_}
-use Prim.Native.Nat.{ℕ, zero, suc, _+_, _*_, _<_}
+use Prim.Native.Nat.{ℕ, zero, suc, _<_}
 use native.Mathlib.Nat.{lt-of-le-of-lt}
 use native.Mathlib.Omega.{arith}
 use lib.Bits.{bitAnd, bitOr, bitXor, and-le-l, or-lt, xor-lt}
@@ -10,8 +10,7 @@ use lib.ListN.{getD, set}
 use Rattle.basis.specs.Bit.{put}
 use Rattle.basis.proofs.Bits.{one-le, put-lt}
 use Rattle.alu.specs.Alu.{plusOf, minusOf, halvedOf}
-use Rattle.memory.specs.Memory.{wordOf, programWordOf}
-use Rattle.cores.specs.State.{cz, znvs, cznvs, cznvsh, Bytes}
+use Rattle.cores.specs.State.{cz, znvs, cznvs, cznvsh}
 
 -- ---- SREG with new flags
 module _ (s : ℕ) (h : s < 256) where
@@ -53,19 +52,10 @@ or-byte a b g h = or-lt 8 a b g h
 pub xor-byte : (a b : ℕ) → a < 256 → b < 256 → bitXor a b < 256
 xor-byte a b g h = xor-lt 8 a b g h
 
--- ---- bytes of a list
--- with a byte put in
+-- ---- bytes of a list, with a byte put in
 pub set-lt : (l : List ℕ) (d v : ℕ) → ((i : ℕ) → getD l i 0 < 256) → v < 256 → (i : ℕ) → getD (set l d v) i 0 < 256
 set-lt [] d v h b i = h i
 set-lt (x ∷ l) zero v h b zero = b
 set-lt (x ∷ l) zero v h b (suc i) = h (suc i)
 set-lt (x ∷ l) (suc d) v h b zero = h zero
 set-lt (x ∷ l) (suc d) v h b (suc i) = set-lt l d v (λ j. h (suc j)) b i
-
--- two bytes as a word
-pub word-lt : (l : List ℕ) (at : ℕ) → ((i : ℕ) → getD l i 0 < 256) → wordOf l at < 65536
-word-lt l at h = omega (arith, h at, h (at + 1))
-
-pub program-word-lt : (p : List ℕ) (pc : ℕ) → Bytes p → programWordOf p pc < 65536
-unfolding programWordOf
-program-word-lt p pc b = word-lt p (pc * 2) (b .byte-lt)

@@ -8,7 +8,8 @@ use native.Mathlib.Omega.{arith}
 use lib.ListN.{length, set, length-set}
 use Rattle.cores.specs.declared.Core.{Core}
 use Rattle.cores.specs.State.{reg, word, withReg, withWord, withSreg, withPc, withSp, withBusy, withInhibit, withService, Sound, Bytes}
-use Rattle.invariants.proofs.Bounds.{set-lt, word-lt}
+use Rattle.cores.proofs.Bounds.{word-lt}
+use Rattle.invariants.proofs.Bounds.{set-lt}
 
 pub record Fits (k : Core) : Type 0 where
   pub count : length (k .regs) ≡ 32

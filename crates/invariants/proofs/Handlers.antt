@@ -8,6 +8,7 @@ use native.Mathlib.Omega.{arith}
 use lib.Dec.{eqb}
 use lib.ListN.{getD, set, length, length-set}
 use Rattle.basis.specs.Bit.{one, up, down}
+use Rattle.basis.proofs.Choice.{either}
 use Rattle.alu.specs.Alu.{signedOf, halvedOf, doubledOf}
 use Rattle.alu.specs.declared.Sum.{Sum}
 use Rattle.cores.specs.declared.Core.{Core}
@@ -16,7 +17,6 @@ use Rattle.cores.specs.Arithmetic.{sumFlags, summed, resulted, multiplied, frac
 use Rattle.cores.specs.Bits.{shifted}
 use Rattle.cores.specs.Flow.{brbxOf, wordPushed, overSecond, called, skipped, jumped, retOf, retiOf}
 use Rattle.cores.specs.Transfer.{dataOf, setDataOf, pointedOf, wordIf, ldOf, stOf, ldsOf, lpmOf, popOf, pushOf, stsOf}
-use Rattle.invariants.proofs.Choice.{either}
 use Rattle.invariants.proofs.Bounds.{cz-lt, znvs-lt, cznvs-lt, cznvsh-lt, halved-lt}
 use Rattle.invariants.proofs.Fits.{Fits, fits-reg, fits-sreg, fits-pc, fits-sp, fits-busy, fits-inhibit, fits-service, fits-word, reg-word-lt, bytes-set}
 

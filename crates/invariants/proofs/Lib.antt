@@ -1,11 +1,9 @@
--- The laws of specs/. `Choice`, `Bounds`, `Fits`, `Handlers`: of choices, numbers, a core's setters and the shapes of handlers. `Registers`, `Waits`, `Ranges`: of
--- every instruction. `Steps`: the tick by its branches. `Ticks`: of every tick.
-pub mod Choice
+-- The laws of specs/. `Bounds`, `Fits`, `Handlers`: of numbers, a core's setters and the shapes of handlers. `Registers`, `Waits`, `Ranges`: of
+-- every instruction. `Ticks`: of every tick.
 pub mod Bounds
 pub mod Fits
 pub mod Handlers
 pub mod Registers
 pub mod Waits
 pub mod Ranges
-pub mod Steps
 pub mod Ticks

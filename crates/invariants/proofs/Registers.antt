@@ -4,21 +4,21 @@ use mathlib.Core.Path.{_≡_, refl, ap, subst, _∙_}
 use mathlib.Core.Bool.{Bool, true, false, Bool·beq}
 use mathlib.Core.List.{List, [], _∷_}
 use Prim.Native.Nat.{ℕ, _+_}
-use lib.Dec.{eqb}
 use lib.ListN.{getD}
 use lib.Seq.{getD-set-other}
 use Rattle.basis.specs.Bit.{one, up}
+use Rattle.basis.proofs.Choice.{either}
 use Rattle.alu.specs.Alu.{signedOf}
 use Rattle.instruction.specs.declared.Instruction.{Instruction}
 use Rattle.instruction.specs.declared.Instruction.the-variants.{ADC, ADD, ADIW, AND, ANDI, ASR, BCLR, BLD, BRBC, BRBS, BREAK, BSET, BST, CALL, CBI, COM, CP, CPC, CPI, CPSE, DEC, EOR, FMUL, FMULS, FMULSU, ICALL, IJMP, IN, INC, JMP, LDX, LDXinc, LDXdec, LDYinc, LDYdec, LDZinc, LDZdec, LDDY, LDDZ, LDI, LDS, LPM, LPMZ, LPMZinc, LSL, LSR, MOV, MOVW, MUL, MULS, MULSU, NEG, NOP, OR, ORI, OUT, POP, PUSH, RCALL, RET, RETI, RJMP, ROR, SBC, SBCI, SBI, SBIC, SBIS, SBIW, SBRC, SBRS, SLEEP, STX, STXdec, STXinc, STYdec, STYinc, STZdec, STZinc, STDY, STDZ, STS, SUB, SUBI, SWAP, WDR, UNDEF}
 use Rattle.instruction.specs.Code.{isRegisterOnly}
 use Rattle.cores.specs.declared.Core.{Core}
-use Rattle.cores.specs.State.{Out, reg, flag, withReg, withPc, withSp, withBusy, withInhibit, withService}
+use Rattle.cores.specs.State.{reg, flag, withReg, withPc, withSp, withBusy, withInhibit, withService}
 use Rattle.cores.specs.Flow.{brbxOf, skipped}
-use Rattle.cores.specs.Transfer.{setDataOf, wordIf}
+use Rattle.cores.specs.Transfer.{wordIf}
+use Rattle.cores.proofs.Space.{store-regs}
 use Rattle.execute.specs.Execute.{executed, ran}
 use Rattle.invariants.specs.Instructions.{Unnamed, restOf, OtherRegistersKept, RegisterOnlyKeepsTheRest}
-use Rattle.invariants.proofs.Choice.{either}
 
 -- ---- one, two or three registers written, seen at another
 past-one : (k : Core) (i d v : ℕ) → Unnamed i (d ∷ []) → reg (withReg k d v) i ≡ reg k i
@@ -43,12 +43,6 @@ branch-regs k s o on = either (λ j. j .regs ≡ k .regs) (Bool·beq (flag k s) 
 skip-regs : (k : Core) (taken two : Bool) → skipped k taken two .regs ≡ k .regs
 unfolding skipped withBusy withPc
 skip-regs k taken two = either (λ j. j .regs ≡ k .regs) taken (withBusy (withPc k (up (k .pc) (1 + one two))) (1 + one two)) k refl refl
-
-store-regs : (k : Core) (at v : ℕ) (m : List ℕ) → setDataOf k at v m .core .regs ≡ k .regs
-unfolding setDataOf withSp
-store-regs k at v m =
-    let P : Out → Type 0 = λ o. o .core .regs ≡ k .regs in
-    either P (eqb at 0x3F) _ _ refl (either P (eqb at 0x3E) _ _ refl (either P (eqb at 0x3D) _ _ refl refl))
 
 -- so each register is as it was
 at-i : (i : ℕ) {l l′ : List ℕ} → l ≡ l′ → getD l i 0 ≡ getD l′ i 0

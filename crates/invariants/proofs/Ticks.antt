@@ -2,38 +2,38 @@
 -- Assumes nothing.
 use mathlib.Core.Path.{_≡_, refl, sym, ap, subst, _∙_}
 use mathlib.Core.Logic.{inl, inr}
-use mathlib.Core.Bool.{Bool, true, false}
+use mathlib.Core.Bool.{true, false}
 use mathlib.Core.List.{List}
 use Prim.Native.Nat.{ℕ, _+_, _-_, _≤_, _<_}
 use native.Mathlib.Omega.{arith}
+use Rattle.basis.proofs.Choice.{clash}
 use Rattle.instruction.specs.Decode.{decodeOf}
 use Rattle.instruction.specs.Fields.{InFields}
 use Rattle.instruction.specs.declared.Instruction.{Instruction}
 use Rattle.instruction.proofs.Laws.{fields-in-range}
 use Rattle.memory.specs.Memory.{programWordOf}
 use Rattle.cores.specs.declared.Core.{Core}
-use Rattle.cores.specs.State.{flag, withPc, withBusy, withInhibit, withService, Sound, Bytes}
+use Rattle.cores.specs.State.{withPc, withBusy, withInhibit, withService, Sound, Bytes}
 use Rattle.cores.specs.Flow.{wordPushed}
+use Rattle.cores.proofs.Bounds.{program-word-lt}
 use Rattle.execute.specs.declared.Done.{Done}
 use Rattle.execute.specs.declared.Done.the-variants as done
-use Rattle.tick.specs.Tick.{numberOf, answerOf, due, entry}
+use Rattle.tick.specs.Tick.{numberOf, refuses, answerOf, due, entry}
 use Rattle.tick.specs.declared.Offer.{Offer}
 use Rattle.tick.specs.declared.Answer.{Answer}
-use Rattle.tick.specs.declared.Answer.the-variants.{Refused, Waited, Entered, Ran, Sleep, Watchdog, Undefined, Break, End}
+use Rattle.tick.specs.declared.Answer.the-variants.{Refused, Waited, Entered, End}
+use Rattle.tick.proofs.Steps.{every-due, onward, opAt, performed, every-tick, done-refuses-not}
 use Rattle.invariants.specs.Instructions.{ByteOperand, InRange}
 use Rattle.invariants.specs.Ticks.{Offered, TickNumber, TicksStayInRange, RefusedTicksChangeNothing, TicksAnswerByTheTable, Brief, TicksLeaveBusyAtMost4}
-use Rattle.invariants.proofs.Choice.{clash, either}
-use Rattle.invariants.proofs.Bounds.{program-word-lt}
 use Rattle.invariants.proofs.Fits.{fits-of, sound-of, fits-pc, fits-busy, fits-inhibit, fits-service}
 use Rattle.invariants.proofs.Handlers.{word-pushed-leaves}
 use Rattle.invariants.proofs.Waits.{instructions-wait-at-most-3}
 use Rattle.invariants.proofs.Ranges.{instructions-stay-in-range}
-use Rattle.invariants.proofs.Steps.{onward, opAt, performed, every-tick}
 
 -- ---- ranges
 -- what is due was offered
 due-offered : (k : Core) (o : Offer) → Offered o → Offered (due k o)
-due-offered k o h = either Offered (k .inhibit) _ _ tt (either Offered (flag k 7) _ _ (either Offered (k .«in_service») _ _ tt h) tt)
+due-offered k o h = every-due Offered k o tt (λ i s. h)
 
 -- decoded operands are in their fields, so the byte of LDI and of ORI is one
 byte-operand : (op : Instruction) → InFields op → ByteOperand op
@@ -84,24 +84,6 @@ ticks-stay-in-range k p m o s bp bm h =
     λ z e l n. instructions-stay-in-range decodeOf op (onward k) p m (byte-operand op fields) (onward-in-range k s l) bp bm
 
 -- ---- refusals
-abbrev refuses : Answer → Bool
-refuses (Refused n) = true
-refuses Waited = false
-refuses Entered = false
-refuses Ran = false
-refuses Sleep = false
-refuses Watchdog = false
-refuses Undefined = false
-refuses Break = false
-refuses End = false
-
-done-refuses-not : (d : Done) → refuses (answerOf d) ≡ false
-done-refuses-not done.Ran = refl
-done-refuses-not done.Sleep = refl
-done-refuses-not done.Watchdog = refl
-done-refuses-not done.Undefined = refl
-done-refuses-not done.Break = refl
-
 never : {A : Type 0} (a : Answer) (n : ℕ) → refuses a ≡ false → a ≡ Refused n → A
 never a n h e = clash (sym (ap refuses e) ∙ h)
 

@@ -7,6 +7,7 @@ use native.Mathlib.Omega.{arith}
 use lib.Dec.{eqb}
 use Rattle.basis.specs.Bit.{one, up}
 use Rattle.basis.proofs.Bits.{one-le}
+use Rattle.basis.proofs.Choice.{either}
 use Rattle.alu.specs.Alu.{signedOf}
 use Rattle.instruction.specs.declared.Instruction.the-variants.{ADC, ADD, ADIW, AND, ANDI, ASR, BCLR, BLD, BRBC, BRBS, BREAK, BSET, BST, CALL, CBI, COM, CP, CPC, CPI, CPSE, DEC, EOR, FMUL, FMULS, FMULSU, ICALL, IJMP, IN, INC, JMP, LDX, LDXinc, LDXdec, LDYinc, LDYdec, LDZinc, LDZdec, LDDY, LDDZ, LDI, LDS, LPM, LPMZ, LPMZinc, LSL, LSR, MOV, MOVW, MUL, MULS, MULSU, NEG, NOP, OR, ORI, OUT, POP, PUSH, RCALL, RET, RETI, RJMP, ROR, SBC, SBCI, SBI, SBIC, SBIS, SBIW, SBRC, SBRS, SLEEP, STX, STXdec, STXinc, STYdec, STYinc, STZdec, STZinc, STDY, STDZ, STS, SUB, SUBI, SWAP, WDR, UNDEF}
 use Rattle.cores.specs.declared.Core.{Core}
@@ -14,7 +15,6 @@ use Rattle.cores.specs.State.{Out, flag, withReg, withPc, withSp, withBusy, wit
 use Rattle.cores.specs.Flow.{brbxOf, skipped}
 use Rattle.cores.specs.Transfer.{setDataOf, wordIf}
 use Rattle.invariants.specs.Instructions.{InstructionsWaitAtMost3}
-use Rattle.invariants.proofs.Choice.{either}
 
 -- ---- a branch, a skip, a store
 branch-waits : (k : Core) (s o : ℕ) (on : Bool) (n : ℕ) → 1 ≤ n → k .busy ≤ n → brbxOf k s o on .busy ≤ n

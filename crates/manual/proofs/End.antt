@@ -7,6 +7,7 @@ use Prim.Native.Nat.{ℕ, _+_, _<_}
 use lib.Dec.{eqb, ltb}
 use borrow.Author.Tests.{le-ltb}
 use Rattle.basis.specs.Pick.{pick}
+use Rattle.basis.proofs.Choice.{clash}
 use Rattle.instruction.specs.Decode.{decodeOf}
 use Rattle.instruction.specs.Fields.{twoWords}
 use Rattle.cores.specs.declared.Core.{Core}
@@ -20,12 +21,11 @@ use Rattle.tick.specs.declared.Offer.the-variants.{Vector, Nothing}
 use Rattle.tick.specs.declared.Answer.the-variants.{End}
 use Rattle.tick.specs.Tick as paper
 use Rattle.tick.specs.Tick.{Tick, gives, answerOf, decided, due, executedTick, stepped, ticked, tickOf}
-use Rattle.tick.proofs.Decided.{opAt}
+use Rattle.tick.proofs.Steps.{opAt}
 use Rattle.manual.specs.Switches.{Switches, Says, says}
 use Rattle.manual.specs.Tick.{told, unless, opcodeAt, step, entersOrSteps, tickBy}
 use Rattle.manual.specs.Statement.{ended, withEnd, EndAlone}
 use Rattle.manual.proofs.Changes.{instruction-changed}
-use Rattle.manual.proofs.Ticks.{false-not-true}
 
 -- ---- a tick that executes or is refused does not end
 executed-goes-on : (d : Done) → ended (answerOf d) ≡ false
@@ -42,7 +42,7 @@ decided-by n k m t false e h = rw e
 stepped-goes-on : (k j : Core) (p m : List ℕ) → ended (stepped decodeOf k j p m .answer) ≡ false
 unfolding stepped
 stepped-goes-on k j p m =
-    let i = opAt p (j .pc) in
+    let i = opAt decodeOf p (j .pc) in
     let x = executed decodeOf (withPc j (j .pc + 1)) i p m in
     let n = withFetch (fetched p (j .pc) i) (needs decodeOf (withPc j (j .pc + 1)) i p m) in
     decided-by n k m (executedTick x) (eqb (refusal n) 0) refl (executed-goes-on (x .done))
@@ -63,7 +63,7 @@ module _ (s : Switches) (p m : List ℕ) (k : Core) where
   -- e: the switch; a: PC is 65,535
   end-by : (e a : Bool) (x y : Says) (t : Tick) → e ≡ false → x ≡ y → ended (t .answer) ≡ false
       → pick (e && a) (says End j m) x ≡ pick (ended (pick a (gives End j m) t .answer)) x (pick (true && a) (says End j m) y)
-  end-by true a x y t n h g = absurd (false-not-true (sym n))
+  end-by true a x y t n h g = clash n
   end-by false true x y t n h g = refl
   end-by false false x y t n h g = rw g h
 

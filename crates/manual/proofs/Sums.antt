@@ -1,13 +1,13 @@
 -- The pages of sums and differences are the port's: ADC ADD, SUB SUBI SBC SBCI, CP CPI CPC, and NEG.
 -- Assumes nothing.
 use mathlib.Core.Path.{_≡_}
-use mathlib.Core.Bool.{Bool, true, false, not, _&&_}
+use mathlib.Core.Bool.{Bool, false, not, and-comm}
 use Prim.Native.Nat.{ℕ, _+_, _%_, _-_, _<_}
 use native.Mathlib.Omega.{arith}
 use lib.Dec.{eqb, leb}
 use Rattle.basis.specs.Bit.{one, bit}
 use Rattle.basis.proofs.Bits.{one-le}
-use Rattle.bits.proofs.Booleans.{tauto, tests-agree}
+use Rattle.bits.proofs.Booleans.{tests-agree}
 use Rattle.bits.proofs.Tops.{bit7}
 use Rattle.bits.proofs.Carries.{over-add, over-sub, carry-add, carry-sub, half-add, half-sub}
 use Rattle.alu.specs.Alu.{plusOf, minusOf}
@@ -58,9 +58,6 @@ less a b h = omega arith
 
 less-carry : (a b : ℕ) (c : Bool) → b < 256 → (a + 256 - b - one c) % 256 ≡ (a + 512 - (b + one c)) % 256
 less-carry a b c h = let l = one-le c in omega arith
-
-and-swap : (a b : Bool) → a && b ≡ b && a
-and-swap a b = tauto (λ a b _. a && b) (λ a b _. b && a) tt a b true
 
 module _ (k : Core) (w : Ready k) where
   -- ---- sums
@@ -123,7 +120,7 @@ module _ (k : Core) (w : Ready k) where
       let hb = w .sound .reg-lt r in
       let c = k .sreg ! 0 in
       let x = (a + 512 - (b + one c)) % 256 in
-      rw (next-one k w, less-carry a b c hb, zero8-is x (omega arith), ← and-swap (eqb x 0) (k .sreg ! 1), difference-row k a b c (w .sound .sreg-lt) (w .sound .reg-lt d) hb)
+      rw (next-one k w, less-carry a b c hb, zero8-is x (omega arith), ← and-comm (eqb x 0) (k .sreg ! 1), difference-row k a b c (w .sound .sreg-lt) (w .sound .reg-lt d) hb)
 
   pub sbci-is : (d K : ℕ) → K < 256 → sbci k d K ≡ sbcOf (on k) d K
   unfolding sbci minusOf withPc withReg bit
@@ -131,7 +128,7 @@ module _ (k : Core) (w : Ready k) where
       let a = reg k d in
       let c = k .sreg ! 0 in
       let x = (a + 512 - (b + one c)) % 256 in
-      rw (next-one k w, less-carry a b c hb, zero8-is x (omega arith), ← and-swap (eqb x 0) (k .sreg ! 1), difference-row k a b c (w .sound .sreg-lt) (w .sound .reg-lt d) hb)
+      rw (next-one k w, less-carry a b c hb, zero8-is x (omega arith), ← and-comm (eqb x 0) (k .sreg ! 1), difference-row k a b c (w .sound .sreg-lt) (w .sound .reg-lt d) hb)
 
   pub cpc-is : (d r : ℕ) → cpc k d r ≡ cpcOf (on k) d (reg k r)
   unfolding cpc minusOf withPc bit
@@ -141,7 +138,7 @@ module _ (k : Core) (w : Ready k) where
       let hb = w .sound .reg-lt r in
       let c = k .sreg ! 0 in
       let x = (a + 512 - (b + one c)) % 256 in
-      rw (next-one k w, less-carry a b c hb, zero8-is x (omega arith), ← and-swap (eqb x 0) (k .sreg ! 1), difference-row k a b c (w .sound .sreg-lt) (w .sound .reg-lt d) hb)
+      rw (next-one k w, less-carry a b c hb, zero8-is x (omega arith), ← and-comm (eqb x 0) (k .sreg ! 1), difference-row k a b c (w .sound .sreg-lt) (w .sound .reg-lt d) hb)
 
   -- ---- NEG
   pub neg-is : (d : ℕ) → neg k d ≡ negOf (on k) d

@@ -3,12 +3,12 @@
 use mathlib.Core.Path.{_≡_, refl, sym, ap, _∙_}
 use mathlib.Core.Bool.{Bool, true, false, _&&_}
 use mathlib.Core.List.{List}
-use Prim.Native.Nat.{ℕ, _+_, _*_, _<_}
+use Prim.Native.Nat.{ℕ, _+_, _<_}
 use native.Mathlib.Omega.{arith}
 use lib.Dec.{eqb, ltb}
 use borrow.Author.Tests.{eqb-true, eqb-false, ltb-false, le-ltb}
 use Rattle.basis.specs.Pick.{pick}
-use Rattle.basis.specs.Bit.{one}
+use Rattle.basis.proofs.Choice.{clash}
 use Rattle.instruction.specs.Decode.{decodeOf}
 use Rattle.instruction.proofs.Laws.{fields-in-range}
 use Rattle.instruction.specs.Fields.{twoWords}
@@ -17,6 +17,7 @@ use Rattle.memory.specs.Memory.{programWordOf}
 use Rattle.cores.specs.declared.Core.{Core}
 use Rattle.cores.specs.State.{Sound, Bytes, withPc, withInhibit}
 use Rattle.cores.specs.Flow.{twoAt}
+use Rattle.cores.proofs.Bounds.{program-word-lt}
 use Rattle.execute.specs.Needs.{Needs, refusal, needs, fetched, withFetch, pushNeeds}
 use Rattle.execute.specs.Execute.{executed}
 use Rattle.execute.specs.declared.Done.{Done}
@@ -26,7 +27,7 @@ use Rattle.tick.specs.declared.Offer.the-variants.{Vector, Nothing}
 use Rattle.tick.specs.declared.Answer.the-variants.{Refused, End}
 use Rattle.tick.specs.Tick as paper
 use Rattle.tick.specs.Tick.{Tick, gives, answerOf, due, executedTick, stepped, ticked, tickOf}
-use Rattle.tick.proofs.Decided.{opAt}
+use Rattle.tick.proofs.Steps.{opAt}
 use Rattle.manual_opcodes.proofs.Decodes.{decodes-as-the-manual}
 use Rattle.manual.specs.Switches.{Switches, Says, says}
 use Rattle.manual.specs.Tick.{told, unless, opcodeAt, step, entersOrSteps, tickBy}
@@ -48,15 +49,8 @@ executed-answers done.Watchdog = refl
 executed-answers done.Undefined = refl
 executed-answers done.Break = refl
 
-pub false-not-true : _≡_ {A = Bool} false true → ⊥
-false-not-true e = let n : _≡_ {A = ℕ} 0 1 = ap one e in omega arith
-
-word-lt : (p : List ℕ) (i : ℕ) → Bytes p → programWordOf p i < 65536
-unfolding programWordOf
-word-lt p i h = omega (arith, h .byte-lt (i * 2 + 1), h .byte-lt (i * 2))
-
-pub opcode-is : (p : List ℕ) (i : ℕ) → Bytes p → opcodeAt p i ≡ opAt p i
-opcode-is p i h = decodes-as-the-manual (programWordOf p i) (programWordOf p (i + 1)) (word-lt p i h) (word-lt p (i + 1) h)
+pub opcode-is : (p : List ℕ) (i : ℕ) → Bytes p → opcodeAt p i ≡ opAt decodeOf p i
+opcode-is p i h = decodes-as-the-manual (programWordOf p i) (programWordOf p (i + 1)) (program-word-lt p i h) (program-word-lt p (i + 1) h)
 
 module _ (s : Switches) (p m : List ℕ) (pp : Bytes p) (mm : Bytes m) where
   -- ---- an instruction
@@ -70,12 +64,12 @@ module _ (s : Switches) (p m : List ℕ) (pp : Bytes p) (mm : Bytes m) where
   abbrev afterWith : Core → Tick → Instruction → Says
   afterWith j t i = pick (executes (t .answer)) (changed s j i (told t)) (told t)
 
-  said : (j : Core) → Ready j → refusal (stepNeeds j (opAt p (j .pc))) ≡ 0
-      → instruction s (twoAt decodeOf (on j) p) j (opAt p (j .pc)) p m ≡ changed s j (opAt p (j .pc)) (told (executedTick (executed decodeOf (on j) (opAt p (j .pc)) p m)))
+  said : (j : Core) → Ready j → refusal (stepNeeds j (opAt decodeOf p (j .pc))) ≡ 0
+      → instruction s (twoAt decodeOf (on j) p) j (opAt decodeOf p (j .pc)) p m ≡ changed s j (opAt decodeOf p (j .pc)) (told (executedTick (executed decodeOf (on j) (opAt decodeOf p (j .pc)) p m)))
   said j w e =
-      let i = opAt p (j .pc) in
+      let i = opAt decodeOf p (j .pc) in
       let g = granted (stepNeeds j i) e in
-      let f = fields-in-range (programWordOf p (j .pc)) (programWordOf p (j .pc + 1)) (word-lt p (j .pc + 1) pp) in
+      let f = fields-in-range (programWordOf p (j .pc)) (programWordOf p (j .pc + 1)) (program-word-lt p (j .pc + 1) pp) in
       instruction-changed s (twoAt decodeOf (on j) p) j p m (w .sound .sreg-lt) i
       ∙ ap (λ (y : Says). changed s j i y) (instruction-with j w p m mm i f (record { bytes-there = g .bytes-there }))
 
@@ -88,7 +82,7 @@ module _ (s : Switches) (p m : List ℕ) (pp : Bytes p) (mm : Bytes m) where
   step-is : (k j : Core) → Ready j → step s k j p m ≡ after s j p (stepped decodeOf k j p m)
   unfolding step stepped withPc
   step-is k j w =
-      let i = opAt p (j .pc) in
+      let i = opAt decodeOf p (j .pc) in
       let x = executed decodeOf (on j) i p m in
       let r = refusal (stepNeeds j i) in
       ap (λ (i : Instruction). stepWith k j i (opcodeAt p (j .pc + 1))) (opcode-is p (j .pc) pp)
@@ -115,7 +109,7 @@ module _ (s : Switches) (p m : List ℕ) (pp : Bytes p) (mm : Bytes m) where
   end-by : (j : Core) (n a : Bool) (x : Says) (t : Tick) → n ≡ true → (a ≡ false → x ≡ after s j p t) → pick (n && a) (says End j m) x ≡ after s j p (pick a (gives End j m) t)
   end-by j true true x t e h = refl
   end-by j true false x t e h = h refl
-  end-by j false a x t e h = absurd (false-not-true e)
+  end-by j false a x t e h = clash (sym e)
 
   entered-by : (k : Core) (v : ℕ) (g : Bool) → eqb (refusal (pushNeeds k m)) 0 ≡ g → told (paper.entered k v m) ≡ after s (withInhibit k false) p (paper.entered k v m)
   entered-by k v true e = rw e

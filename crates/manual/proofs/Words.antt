@@ -10,6 +10,7 @@ use Rattle.alu.specs.Alu.{productOf, signedOf}
 use Rattle.cores.specs.declared.Core.{Core}
 use Rattle.cores.specs.State.{reg, withReg, withWord, withSreg, withBusy, withPc}
 use Rattle.cores.specs.Arithmetic.{adiwOf, sbiwOf, multiplied, fractional, mulOf, mulsOf, mulsuOf, fmulOf, fmulsOf, fmulsuOf}
+use Rattle.cores.proofs.Bounds.{word-lt}
 use Rattle.manual.specs.Notation.{_!_, zero16, kept, is, row, next}
 use Rattle.manual.specs.Switches.{theRust}
 use Rattle.manual.specs.AdcToCpse.{adiw}
@@ -18,9 +19,6 @@ use Rattle.manual.specs.MovToRor.{mul, muls, mulsu}
 use Rattle.manual.specs.SbcToWdr.{sbiw}
 use Rattle.manual.proofs.Rows.{row-cznvs, row-cz, zero16-is}
 use Rattle.manual.proofs.Ready.{Ready, on, next-busy}
-
-word-lt : (h l : ℕ) → h < 256 → l < 256 → h * 256 + l < 65536
-word-lt h l a b = omega arith
 
 low-byte : (h l : ℕ) → l < 256 → (h * 256 + l) % 256 ≡ l
 low-byte h l a = omega arith
@@ -35,7 +33,7 @@ module _ (k : Core) (w : Ready k) where
       let hh = w .sound .reg-lt (d + 1) in
       let hl = w .sound .reg-lt d in
       let a = h * 256 + l in
-      let ha : a < 65536 = word-lt h l hh hl in
+      let ha : a < 65536 = word-lt (k .regs) d (w .sound .reg-lt) in
       let x = (a + n) % 65536 in
       let hx : x < 65536 = omega arith in
       rw (next-busy k w, row-cznvs, bit15 x hx, high7 h l hh hl, carry16 a n ha hn, zero16-is x hx, bit7 l hl, clear 128 l, low-byte h l hl)
@@ -49,7 +47,7 @@ module _ (k : Core) (w : Ready k) where
       let hh = w .sound .reg-lt (d + 1) in
       let hl = w .sound .reg-lt d in
       let a = h * 256 + l in
-      let ha : a < 65536 = word-lt h l hh hl in
+      let ha : a < 65536 = word-lt (k .regs) d (w .sound .reg-lt) in
       let x = (a + 65536 - n) % 65536 in
       let hx : x < 65536 = omega arith in
       rw (next-busy k w, row-cznvs, bit15 x hx, high7 h l hh hl, borrow16 a n ha hn, zero16-is x hx, clear 32768 x)

@@ -4,11 +4,12 @@ use mathlib.Core.Path.{_≡_, refl, sym, ap, subst, _∙_}
 use mathlib.Core.Logic.{_↔_, _⊎_, inl, inr}
 use mathlib.Core.Bool.{Bool, true, false, not, _&&_}
 use mathlib.Core.List.{List, [], _∷_}
-use Prim.Native.Nat.{ℕ, zero, suc, _+_, _*_, _/_, _%_, _≤_, _<_}
+use Prim.Native.Nat.{ℕ, zero, suc, _+_, _/_, _%_, _≤_, _<_}
 use native.Mathlib.Omega.{arith}
 use borrow.Author.Tests.{ne-eqb}
-use lib.Dec.{T, eqb, ltb, eqb→eq}
-use lib.ListN.{getD, length}
+use lib.Dec.{eqb, ltb, eqb→eq}
+use lib.ListN.{getD}
+use Rattle.basis.proofs.Choice.{clash, test}
 use Rattle.basis.proofs.Both.{both-left, both-right}
 use Rattle.cores.specs.declared.Core.{Core}
 use Rattle.cores.specs.State.{Bytes, readRegisterOf, setRegisterOf}
@@ -23,11 +24,10 @@ use Rattle.snapshot.specs.Snapshot.{bytesOf, coreOf, writeOf, readOf}
 use Rattle.snapshot.proofs.RoundTrips.{writing-undoes-reading}
 use Rattle.host.specs.Host.{Told, told, toldTicks, offerOf, avrTickOf, avrRunOf}
 use Rattle.invariants.specs.Ticks.{TickNumber}
-use Rattle.invariants.proofs.Choice.{clash}
 use Rattle.invariants.proofs.Ticks.{ticks-answer-by-the-table, refused-ticks-change-nothing}
 use Rattle.table.specs.Table.{rows, ExactlyWhen, holding}
 use Rattle.table.specs.Calls.{Given, registerRows, RegistersByTheTable, whole, writeRows, WritesByTheTable, readable, readRows, ReadsByTheTable, goesOn, RunsByTheTable, afterTicks, RunsAreTicks, onlyIf, checkRows, TickCallsByTheTable, RefusedTickCallsChangeNothing, RunCallsByTheTable}
-use Rattle.table.proofs.Table.{test, fits, Fits, exactly, fits-the-table}
+use Rattle.table.proofs.Table.{fits, Fits, exactly, fits-the-table}
 
 shown : (a : ℕ) (l : List (ℕ × Bool)) → Fits a l → Given a l
 shown a l t = (exactly a l (both-left (fits a l) (eqb (holding l) 1) t), eqb→eq (holding l) 1 (both-right (fits a l) (eqb (holding l) 1) t))

@@ -1,15 +1,16 @@
 -- What a step needs, by `Needs`, is what the table's rows 1 to 4 say that it lacks, for each instruction.
 -- Assumes nothing.
-use mathlib.Core.Path.{_≡_, refl, sym, _∙_, ap}
+use mathlib.Core.Path.{_≡_, refl}
 use mathlib.Core.Bool.{Bool, true, false, not, _&&_, _||_, Bool·beq}
 use mathlib.Core.List.{List, [], _∷_}
-use Prim.Native.Nat.{ℕ, _+_, _-_, _≤_, _<_}
+use Prim.Native.Nat.{ℕ, _+_, _-_, _<_}
 use native.Mathlib.Omega.{arith}
 use borrow.Author.Tests.{ltb-true, ltb-false, eqb-true, eqb-false, lt-ltb, le-ltb, le-leb, lt-leb}
-use lib.Dec.{eqb, ltb, leb, T}
+use lib.Dec.{eqb, ltb, leb}
 use lib.ListN.{length}
 use Rattle.basis.specs.Pick.{pick}
 use Rattle.basis.specs.Bit.{one, bit, up, down}
+use Rattle.basis.proofs.Choice.{same, test}
 use Rattle.instruction.specs.Fields.{twoWords}
 use Rattle.instruction.specs.Decode.{decodeOf}
 use Rattle.instruction.specs.declared.Instruction.{Instruction}
@@ -21,23 +22,14 @@ use Rattle.cores.specs.State.{reg, word, withPc, withInhibit}
 use Rattle.cores.specs.Flow.{dataBitIs}
 use Rattle.cores.specs.Transfer.{reachOf, pointedOf}
 use Rattle.execute.specs.Needs.{Needs, needs, fetched, withFetch}
-use Rattle.table.specs.Steps.{opAt, usesSecond, hasAll, pushed, unlessMapped}
+use Rattle.tick.proofs.Steps.{onward}
+use Rattle.table.specs.Steps.{opAt, usesSecond, hasAll, unlessMapped}
 use Rattle.table.specs.Table.{outsideProgram, pastTheTop, offTheStack, outsideData}
 
 -- ---- tests
-pub by-test : (P : Bool → Type 0) (c : Bool) → (c ≡ true → P true) → (c ≡ false → P false) → P c
-by-test P true f g = f refl
-by-test P false f g = g refl
-
 twice : (a : Bool) → a ≡ not (not a)
 twice true = refl
 twice false = refl
-
-pub same : (a b : Bool) → T (Bool·beq a b) → a ≡ b
-same true true t = refl
-same true false t = absurd t
-same false true t = absurd t
-same false false t = refl
 
 -- ---- 1: words and bytes of program; h and i say whether the word at PC, and the one behind it, are there
 one-word : (h : Bool) → (h && true && true) ≡ not (not h || false || false)
@@ -62,52 +54,46 @@ program-byte false b = refl
 -- ---- 2: room for PC
 second-room : {pc : ℕ} → pc < 65535 → ltb (pc + 1) 65535 ≡ not (eqb pc 65534 || false)
 second-room {pc} h =
-    by-test (λ c. ltb (pc + 1) 65535 ≡ not (c || false)) (eqb pc 65534)
-    (λ e. le-ltb (pc + 1) 65535 (omega (arith, eqb-true pc 65534 e)))
-    λ e. let z = eqb-false pc 65534 e in lt-ltb (pc + 1) 65535 (omega arith)
+    test (eqb pc 65534)
+    (λ e. rw e (le-ltb (pc + 1) 65535 (omega (arith, eqb-true pc 65534 e))))
+    λ e. let z = eqb-false pc 65534 e in rw e (lt-ltb (pc + 1) 65535 (omega arith))
 
 over : {pc : ℕ} → pc < 65535 → (two : Bool) → ltb (pc + 1 + one two) 65535 ≡ not (eqb pc 65534 || eqb pc 65533 && two)
 over {pc} h true =
-    by-test (λ c. ltb (pc + 1 + 1) 65535 ≡ not (c || eqb pc 65533 && true)) (eqb pc 65534)
-    (λ e. le-ltb (pc + 1 + 1) 65535 (omega (arith, eqb-true pc 65534 e)))
-    λ e. by-test (λ c. ltb (pc + 1 + 1) 65535 ≡ not (c && true)) (eqb pc 65533)
-    (λ f. le-ltb (pc + 1 + 1) 65535 (omega (arith, eqb-true pc 65533 f)))
-    λ f. let z = eqb-false pc 65534 e in let y = eqb-false pc 65533 f in lt-ltb (pc + 1 + 1) 65535 (omega arith)
+    test (eqb pc 65534)
+    (λ e. rw e (le-ltb (pc + 1 + 1) 65535 (omega (arith, eqb-true pc 65534 e))))
+    λ e. test (eqb pc 65533)
+    (λ f. rw (e, f) (le-ltb (pc + 1 + 1) 65535 (omega (arith, eqb-true pc 65533 f))))
+    λ f. let z = eqb-false pc 65534 e in let y = eqb-false pc 65533 f in rw (e, f) (lt-ltb (pc + 1 + 1) 65535 (omega arith))
 over {pc} h false =
-    by-test (λ c. ltb (pc + 1 + 0) 65535 ≡ not (c || eqb pc 65533 && false)) (eqb pc 65534)
-    (λ e. le-ltb (pc + 1 + 0) 65535 (omega (arith, eqb-true pc 65534 e)))
-    λ e. by-test (λ c. ltb (pc + 1 + 0) 65535 ≡ not (c && false)) (eqb pc 65533)
-    (λ f. lt-ltb (pc + 1 + 0) 65535 (omega (arith, eqb-true pc 65533 f)))
-    λ f. let z = eqb-false pc 65534 e in lt-ltb (pc + 1 + 0) 65535 (omega arith)
+    test (eqb pc 65534)
+    (λ e. rw e (le-ltb (pc + 1 + 0) 65535 (omega (arith, eqb-true pc 65534 e))))
+    λ e. let z = eqb-false pc 65534 e in
+    test (eqb pc 65533) (λ f. rw (e, f) (lt-ltb (pc + 1 + 0) 65535 (omega arith))) λ f. rw (e, f) (lt-ltb (pc + 1 + 0) 65535 (omega arith))
 
 two-told : (op : Instruction) → twoWords op ≡ usesSecond op
 two-told op = same _ _ (each (λ i. Bool·beq (twoWords i) (usesSecond i)) (λ a b. tt) tt op)
 
 -- ---- 3: SP
 pub push-stack : (sp : ℕ) → leb 2 sp ≡ not (ltb sp 2 || false)
-push-stack sp =
-    by-test (λ c. leb 2 sp ≡ not (c || false)) (ltb sp 2) (λ e. lt-leb 2 sp (ltb-true sp 2 e)) λ e. le-leb 2 sp (ltb-false sp 2 e)
+push-stack sp = test (ltb sp 2) (λ e. rw e (lt-leb 2 sp (ltb-true sp 2 e))) λ e. rw e (le-leb 2 sp (ltb-false sp 2 e))
 
 pop-stack : (sp : ℕ) → leb sp 65533 ≡ not (ltb 65533 sp)
-pop-stack sp =
-    by-test (λ c. leb sp 65533 ≡ not c) (ltb 65533 sp) (λ e. lt-leb sp 65533 (ltb-true 65533 sp e)) λ e. le-leb sp 65533 (ltb-false 65533 sp e)
+pop-stack sp = test (ltb 65533 sp) (λ e. rw e (lt-leb sp 65533 (ltb-true 65533 sp e))) λ e. rw e (le-leb sp 65533 (ltb-false 65533 sp e))
 
 -- ---- 4: bytes of data
 module _ (m : List ℕ) where
   byte-in : (at : ℕ) → hasOf m at ≡ not (not (hasOf m at && true))
-  byte-in at = by-test (λ c. c ≡ not (not (c && true))) (hasOf m at) (λ e. refl) λ e. refl
+  byte-in at = test (hasOf m at) (λ e. rw e) λ e. rw e
 
   pub pushed-in : (sp : ℕ) → hasOf m sp ≡ not (not (hasOf m sp && (hasOf m (sp - 1) && true)))
   pushed-in sp =
-      by-test (λ c. c ≡ not (not (c && (hasOf m (sp - 1) && true)))) (hasOf m sp)
-      (λ e. let g = ltb-true sp (length m) e in rw (lt-ltb (sp - 1) (length m) (omega arith)))
-      λ e. refl
+      test (hasOf m sp) (λ e. let g = ltb-true sp (length m) e in rw (e, lt-ltb (sp - 1) (length m) (omega arith))) λ e. rw e
 
   popped-in : (sp : ℕ) → hasOf m (sp + 2) ≡ not (not (hasOf m (sp + 1) && (hasOf m (sp + 2) && true)))
   popped-in sp =
-      by-test (λ c. c ≡ not (not (hasOf m (sp + 1) && (c && true)))) (hasOf m (sp + 2))
-      (λ e. let g = ltb-true (sp + 2) (length m) e in rw (lt-ltb (sp + 1) (length m) (omega arith)))
-      λ e. by-test (λ c. false ≡ not (not (c && false))) (hasOf m (sp + 1)) (λ f. refl) λ f. refl
+      test (hasOf m (sp + 2)) (λ e. let g = ltb-true (sp + 2) (length m) e in rw (e, lt-ltb (sp + 1) (length m) (omega arith)))
+      λ e. test (hasOf m (sp + 1)) (λ f. rw (e, f)) λ f. rw (e, f)
 
   -- an address that may be SREG or SP
   named-in : (at : ℕ) → reachOf at (length m) ≡ not (not (hasAll m (unlessMapped at)))
@@ -145,7 +131,7 @@ module _ (k : Core) (p m : List ℕ) (low : k .pc < 65535) where
   abbrev behind : Bool
   behind = hasWordOf p (k .pc + 1)
 
-  pub needs-told : (op : Instruction) → withFetch (fetched p (k .pc) op) (needs decodeOf (withPc (withInhibit k false) (k .pc + 1)) op p m) ≡ lacking k p m op
+  pub needs-told : (op : Instruction) → withFetch (fetched p (k .pc) op) (needs decodeOf (onward k) op p m) ≡ lacking k p m op
   unfolding withPc withInhibit pointedOf
   needs-told (ADC d r) = told (one-word here) refl refl refl
   needs-told (ADD d r) = told (one-word here) refl refl refl

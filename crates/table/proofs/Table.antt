@@ -1,14 +1,15 @@
 -- A tick's answer by the table's rows: each step that it can reach, with what it lacks there.
 -- Assumes nothing.
-use mathlib.Core.Path.{_≡_, refl, sym, ap, subst}
+use mathlib.Core.Path.{_≡_, refl, sym, ap, _∙_}
 use mathlib.Core.Logic.{_↔_}
 use mathlib.Core.Bool.{Bool, true, false, not, _&&_, _||_, Bool·beq}
 use mathlib.Core.List.{List, [], _∷_}
-use Prim.Native.Nat.{ℕ, _+_, _-_, _≤_, _<_}
+use Prim.Native.Nat.{ℕ, _≤_, _<_}
 use native.Mathlib.Omega.{arith}
 use borrow.Author.Tests.{ltb-true, ltb-false, eqb-true, eqb-false, lt-ltb, le-ltb, eq-eqb, ne-eqb}
 use lib.Dec.{eqb, ltb, T, eqb→eq}
 use Rattle.basis.specs.Pick.{pick}
+use Rattle.basis.proofs.Choice.{clash, same, test}
 use Rattle.basis.proofs.Both.{both-left, both-right}
 use Rattle.instruction.specs.Code.{code}
 use Rattle.instruction.specs.Decode.{decodeOf}
@@ -16,19 +17,18 @@ use Rattle.instruction.specs.declared.Instruction.{Instruction}
 use Rattle.instruction.specs.declared.Instruction.the-variants.{BREAK, SLEEP, UNDEF, WDR}
 use Rattle.instruction.proofs.Tests.{each}
 use Rattle.cores.specs.declared.Core.{Core}
-use Rattle.cores.specs.State.{flag, withPc, withInhibit}
+use Rattle.cores.specs.State.{flag, withInhibit}
 use Rattle.execute.specs.declared.Done.{Done}
 use Rattle.execute.specs.declared.Done.the-variants as done
-use Rattle.execute.specs.Needs.{Needs, refusal, pushNeeds, needs, fetched, withFetch}
+use Rattle.execute.specs.Needs.{refusal, pushNeeds}
 use Rattle.execute.specs.Execute.{executed}
 use Rattle.tick.specs.declared.Offer.{Offer}
 use Rattle.tick.specs.declared.Offer.the-variants.{Vector, Nothing}
-use Rattle.tick.specs.declared.Answer.{Answer}
-use Rattle.tick.specs.declared.Answer.the-variants.{Refused, Waited, Entered, End}
-use Rattle.tick.specs.Tick.{Tick, gives, numberOf, answerOf, decided, due, entry, executedTick, stepped, entersOrSteps, ticked, tickOf}
-use Rattle.table.specs.Steps.{tooBusy, waits, idle, offered, enters, ends, steps, opAt, hasAll, pushed}
+use Rattle.tick.specs.Tick.{numberOf, due, stepped, entersOrSteps, ticked, tickOf}
+use Rattle.tick.proofs.Steps.{onward, stepNeeds, performed}
+use Rattle.table.specs.Steps.{offered, enters, opAt, hasAll, pushed}
 use Rattle.table.specs.Table.{outsideProgram, pastTheTop, offTheStack, outsideData, rows, ExactlyWhen, holding, AnswersByTheTable}
-use Rattle.table.proofs.Needs.{by-test, same, push-stack, pushed-in, needs-told, lacking}
+use Rattle.table.proofs.Needs.{push-stack, pushed-in, needs-told, lacking}
 
 -- ---- the statement as a test
 abbrev pub fits : ℕ → List (ℕ × Bool) → Bool
@@ -39,16 +39,12 @@ abbrev pub Fits : ℕ → List (ℕ × Bool) → Type 0
 Fits a l = T (fits a l && eqb (holding l) 1)
 
 row : (a n : ℕ) (c : Bool) → T (Bool·beq (eqb a n) c) → (a ≡ n) ↔ (c ≡ true)
-row a n true t = (λ e. refl, λ e. by-test (λ b. T (Bool·beq b true) → a ≡ n) (eqb a n) (λ e u. eqb-true a n e) (λ e u. absurd u) t)
-row a n false t = (λ e. absurd (subst (λ (b : Bool). T (Bool·beq b false)) (eq-eqb a n e) t), λ e. absurd (subst T (sym e) tt))
+row a n true t = (λ e. refl, λ e. eqb-true a n (same (eqb a n) true t))
+row a n false t = (λ e. clash (sym (eq-eqb a n e) ∙ same (eqb a n) false t), λ e. clash (sym e))
 
 pub exactly : (a : ℕ) (l : List (ℕ × Bool)) → T (fits a l) → ExactlyWhen a l
 exactly a [] t = tt
 exactly a ((n, c) ∷ l) t = (row a n c (both-left (Bool·beq (eqb a n) c) (fits a l) t), exactly a l (both-right (Bool·beq (eqb a n) c) (fits a l) t))
-
-pub test : {X : Type 0} (c : Bool) → (c ≡ true → X) → (c ≡ false → X) → X
-test true f g = f refl
-test false f g = g refl
 
 -- ---- how an instruction is done, by its form
 abbrev slept : Done → Bool
@@ -136,28 +132,25 @@ module _ (k : Core) (p m : List ℕ) (o : Offer) where
       abbrev op : Instruction
       op = opAt p (k .pc)
 
-      abbrev onward : Core
-      onward = withPc (withInhibit k false) (k .pc + 1)
-
       abbrev how : Done
-      how = executed decodeOf onward op p m .done
+      how = performed decodeOf k p m .done
 
       sleeps : eqb (form op) (form SLEEP) ≡ slept how
-      sleeps = same _ _ (each (λ i. Bool·beq (eqb (form i) (form SLEEP)) (slept (executed decodeOf onward i p m .done))) (λ a b. tt) tt op)
+      sleeps = same _ _ (each (λ i. Bool·beq (eqb (form i) (form SLEEP)) (slept (executed decodeOf (onward k) i p m .done))) (λ a b. tt) tt op)
 
       resets : eqb (form op) (form WDR) ≡ reset how
-      resets = same _ _ (each (λ i. Bool·beq (eqb (form i) (form WDR)) (reset (executed decodeOf onward i p m .done))) (λ a b. tt) tt op)
+      resets = same _ _ (each (λ i. Bool·beq (eqb (form i) (form WDR)) (reset (executed decodeOf (onward k) i p m .done))) (λ a b. tt) tt op)
 
       unknowns : eqb (form op) (form UNDEF) ≡ unknown how
-      unknowns = same _ _ (each (λ i. Bool·beq (eqb (form i) (form UNDEF)) (unknown (executed decodeOf onward i p m .done))) (λ a b. tt) tt op)
+      unknowns = same _ _ (each (λ i. Bool·beq (eqb (form i) (form UNDEF)) (unknown (executed decodeOf (onward k) i p m .done))) (λ a b. tt) tt op)
 
       breaks : eqb (form op) (form BREAK) ≡ broke how
-      breaks = same _ _ (each (λ i. Bool·beq (eqb (form i) (form BREAK)) (broke (executed decodeOf onward i p m .done))) (λ a b. tt) tt op)
+      breaks = same _ _ (each (λ i. Bool·beq (eqb (form i) (form BREAK)) (broke (executed decodeOf (onward k) i p m .done))) (λ a b. tt) tt op)
 
       top : eqb (k .pc) 65535 ≡ false
       top = ne-eqb (k .pc) 65535 (omega arith)
 
-      lacked : refusal (withFetch (fetched p (k .pc) op) (needs decodeOf onward op p m)) ≡ refusal (lacking k p m op)
+      lacked : refusal (stepNeeds decodeOf k p m) ≡ refusal (lacking k p m op)
       lacked = ap refusal (needs-told k p m h op)
 
       module _ (a : outsideProgram k p m op ≡ false) (b : pastTheTop k p m op ≡ false) (c : offTheStack k op ≡ false) (f : outsideData k m op ≡ false) where

@@ -7,14 +7,13 @@ use Prim.Native.Nat.{ℕ, _+_}
 use borrow.Author.Tests.{ne-eqb}
 use Rattle.basis.specs.Pick.{pick}
 use Rattle.instruction.specs.Decode.{decodeOf}
-use Rattle.instruction.specs.declared.Instruction.{Instruction}
-use Rattle.memory.specs.Memory.{programWordOf}
 use Rattle.cores.specs.declared.Core.{Core}
 use Rattle.cores.specs.State.{withPc}
 use Rattle.execute.specs.Needs.{Needs, refusal, needs, fetched}
 use Rattle.execute.specs.Execute.{executed}
 use Rattle.tick.specs.Tick.{Tick, gives, decided, executedTick, stepped}
 use Rattle.tick.specs.declared.Answer.the-variants.{Refused}
+use Rattle.tick.proofs.Steps.{opAt}
 
 module _ (n : Needs) (k : Core) (m : List ℕ) (t : Tick) where
   pub granted : 0 ≡ refusal n → decided n k m t ≡ t
@@ -35,24 +34,21 @@ if-and-not true false x y = refl
 if-and-not false s x y = refl
 
 -- ---- step 5, by what was found: the words, the needs
-abbrev pub opAt : List ℕ → ℕ → Instruction
-opAt p pc = decodeOf (programWordOf p pc) (programWordOf p (pc + 1))
-
 module _ (k j : Core) (p m : List ℕ) where
   abbrev pub needed : Needs
-  needed = needs decodeOf (withPc j (j .pc + 1)) (opAt p (j .pc)) p m
+  needed = needs decodeOf (withPc j (j .pc + 1)) (opAt decodeOf p (j .pc)) p m
 
-  abbrev pub performed : Tick
-  performed = executedTick (executed decodeOf (withPc j (j .pc + 1)) (opAt p (j .pc)) p m)
+  abbrev pub executedFrom : Tick
+  executedFrom = executedTick (executed decodeOf (withPc j (j .pc + 1)) (opAt decodeOf p (j .pc)) p m)
 
-  pub step-unfetched : fetched p (j .pc) (opAt p (j .pc)) ≡ false → stepped decodeOf k j p m ≡ gives (Refused 1) k m
+  pub step-unfetched : fetched p (j .pc) (opAt decodeOf p (j .pc)) ≡ false → stepped decodeOf k j p m ≡ gives (Refused 1) k m
   unfolding stepped
   step-unfetched e = rw e
 
-  pub step-denied : fetched p (j .pc) (opAt p (j .pc)) ≡ true → (r : ℕ) → r ≡ refusal needed → (r ≡ 0 → ⊥) → stepped decodeOf k j p m ≡ gives (Refused r) k m
+  pub step-denied : fetched p (j .pc) (opAt decodeOf p (j .pc)) ≡ true → (r : ℕ) → r ≡ refusal needed → (r ≡ 0 → ⊥) → stepped decodeOf k j p m ≡ gives (Refused r) k m
   unfolding stepped
-  step-denied e r f h = rw e (denied needed k m performed r f h)
+  step-denied e r f h = rw e (denied needed k m executedFrom r f h)
 
-  pub step-granted : fetched p (j .pc) (opAt p (j .pc)) ≡ true → 0 ≡ refusal needed → stepped decodeOf k j p m ≡ performed
+  pub step-granted : fetched p (j .pc) (opAt decodeOf p (j .pc)) ≡ true → 0 ≡ refusal needed → stepped decodeOf k j p m ≡ executedFrom
   unfolding stepped
-  step-granted e f = rw e (granted needed k m performed f)
+  step-granted e f = rw e (granted needed k m executedFrom f)

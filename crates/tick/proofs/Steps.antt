@@ -7,17 +7,19 @@ use Prim.Native.Nat.{ℕ, _+_, _-_, _≤_, _<_}
 use native.Mathlib.Omega.{arith}
 use borrow.Author.Tests.{ltb-true, ltb-false, eqb-true, eqb-false}
 use lib.Dec.{eqb, ltb}
+use Rattle.basis.proofs.Choice.{cases, either}
 use Rattle.instruction.specs.declared.Instruction.{Instruction}
 use Rattle.memory.specs.Memory.{programWordOf}
 use Rattle.cores.specs.declared.Core.{Core}
-use Rattle.cores.specs.State.{withPc, withBusy, withInhibit}
+use Rattle.cores.specs.State.{flag, withPc, withBusy, withInhibit}
+use Rattle.execute.specs.declared.Done.{Done}
+use Rattle.execute.specs.declared.Done.the-variants as done
 use Rattle.execute.specs.Needs.{Needs, refusal, pushNeeds, needs, fetched, withFetch}
 use Rattle.execute.specs.Execute.{Executed, executed}
-use Rattle.tick.specs.Tick.{Tick, gives, decided, due, entry, executedTick, stepped, entersOrSteps, ticked}
+use Rattle.tick.specs.Tick.{Tick, refuses, answerOf, gives, decided, due, entry, executedTick, stepped, entersOrSteps, ticked}
 use Rattle.tick.specs.declared.Offer.{Offer}
 use Rattle.tick.specs.declared.Offer.the-variants.{Vector, Nothing}
 use Rattle.tick.specs.declared.Answer.the-variants.{Refused, Waited, Entered, End}
-use Rattle.invariants.proofs.Choice.{cases, either}
 
 -- ---- a step that is refused, by one of 1 to 4, or done
 pub refusal-le : (n : Needs) → refusal n ≤ 4
@@ -31,6 +33,20 @@ module _ (P : Tick → Type 0) (n : Needs) (k : Core) (m : List ℕ) (t : Tick) 
   every-decided refuse go =
       cases P (eqb (refusal n) 0) t (gives (Refused (refusal n)) k m) (λ e. go (eqb-true (refusal n) 0 e))
       λ e. let z = eqb-false (refusal n) 0 e in refuse (refusal n) (omega arith) (refusal-le n)
+
+-- an executed instruction is not refused
+pub done-refuses-not : (d : Done) → refuses (answerOf d) ≡ false
+done-refuses-not done.Ran = refl
+done-refuses-not done.Sleep = refl
+done-refuses-not done.Watchdog = refl
+done-refuses-not done.Undefined = refl
+done-refuses-not done.Break = refl
+
+-- ---- what is due: the offer, or nothing where inhibit or in-service is set
+pub every-due : (P : Offer → Type 0) (k : Core) (o : Offer) → P Nothing → (k .inhibit ≡ false → k .«in_service» ≡ false → P o) → P (due k o)
+every-due P k o none some =
+    cases P (k .inhibit) _ _ (λ i. none)
+    λ i. cases P (flag k 7) _ _ (λ f. cases P (k .«in_service») _ _ (λ s. none) (some i)) (λ f. none)
 
 -- ---- the core that an instruction is executed on
 abbrev pub onward : Core → Core
