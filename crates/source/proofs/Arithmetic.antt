@@ -1,23 +1,23 @@
 -- adc to subi of the Rust are the port's, but for products and differences. No handler here panics.
 -- Assumes nothing.
 use mathlib.Core.Path.{_≡_}
-use Prim.Native.Nat.{ℕ, _+_, _*_, _%_, _-_, _<_}
+use Prim.Native.Nat.{ℕ, _+_, _%_, _-_, _<_}
 use native.Mathlib.Omega.{arith}
 use native.Mathlib.Nat.{add-zero}
 use lib.Dec.{leb}
 use lib.Bits.{bitAnd, bitOr, bitXor, and-lt, or-lt, xor-lt}
 use Rattle.basis.specs.Bit.{one, bit}
 use Rattle.alu.specs.Alu.{plusOf}
+use Rattle.bits.proofs.Tops.{bit7, bit15}
+use Rattle.bits.proofs.Carries.{over-add, half-add}
 use Rattle.cores.specs.State.{Sound, reg, word, withReg, withBusy, flag}
 use Rattle.cores.specs.Arithmetic.{adcOf, addOf, adiwOf, andOf, comOf, decOf, eorOf, incOf, negOf, orOf, sbiwOf}
+use Rattle.cores.proofs.Bounds.{word-lt}
 use Rattle.source.specs.Monad.{Self}
 use Rattle.source.specs.Arithmetic.{adc, add, adiw, and, andi, «com», dec, eor, inc, neg, or, ori, sbiw}
 use Rattle.source.proofs.Steps.{leaves}
 use Rattle.source.proofs.Registers.{get-ok, set-ok, get-word-ok, set-word-ok, flag-ok, znvs-ok, cznvs-ok, cznvsh-ok}
-use Rattle.source.proofs.Sums.{bit7, bit15, low7, top-clear, over-add, half-add, half-plain, value-add, carry-add}
-
-word-lt : (h l : ℕ) → h < 256 → l < 256 → h * 256 + l < 65536
-word-lt h l a b = omega arith
+use Rattle.source.proofs.Sums.{low7, top-clear, half-plain, value-add, carry-add}
 
 module _ (s : Self) (w : Sound (s .core)) where
   pub adc-is : (d r : ℕ) → d < 32 → r < 32 → adc d r s ≡ leaves s (adcOf (s .core) d r)
@@ -160,5 +160,5 @@ module _ (s : Self) (w : Sound (s .core)) where
       let g = w .sreg-lt in
       let a = word (s .core) d in
       let x = (a + 65536 - K) % 65536 in
-      let ha : a < 65536 = word-lt (reg (s .core) (d + 1)) (reg (s .core) d) (w .reg-lt (d + 1)) (w .reg-lt d) in
+      let ha : a < 65536 = word-lt (s .core .regs) d (w .reg-lt) in
       rw (get-word-ok, set-word-ok, cznvs-ok, bit15 x (omega arith), bit15 a ha, top-clear x (leb 32768 a))

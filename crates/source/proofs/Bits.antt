@@ -12,6 +12,7 @@ use Rattle.basis.specs.Pick.{pick}
 use Rattle.basis.specs.Bit.{one, bit, put}
 use Rattle.basis.proofs.Bits.{one-le, or-put, and-put}
 use Rattle.basis.proofs.Every.{agreed}
+use Rattle.bits.proofs.Tops.{bit7}
 use Rattle.memory.specs.Memory.{bitSetOf}
 use Rattle.cores.specs.State.{Sound, Bytes, reg, withReg, flag}
 use Rattle.cores.specs.Bits.{asrOf, flagMadeOf, bldOf, bstOf, lsrOf, rorOf, swapOf}
@@ -21,7 +22,6 @@ use Rattle.source.specs.Registers.{ds·read, ds·write, ds·set-bit}
 use Rattle.source.specs.Bits.{asr, bclr, bld, bset, bst, cbi, lsr, ror, sbi, swap}
 use Rattle.source.proofs.Steps.{leaves, after-pick, twice}
 use Rattle.source.proofs.Registers.{get-ok, set-ok, flag-ok, put-ok, cznvs-ok, and-flag, xor-is}
-use Rattle.source.proofs.Sums.{bit7}
 
 -- `((Rd as i8) >> 1) as u8`
 asr-value : (a : ℕ) → a < 256 → signed-as-u8 (halved (u8-as-i8 a) 1) ≡ a / 2 + one (leb 128 a) * 128

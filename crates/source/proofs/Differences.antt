@@ -7,8 +7,9 @@ use native.Mathlib.Omega.{arith}
 use native.Mathlib.Nat.{add-zero}
 use lib.Dec.{eqb, ltb, leb}
 use Rattle.basis.specs.Bit.{one}
-use Rattle.basis.proofs.Bits.{one-le}
 use Rattle.alu.specs.Alu.{minusOf}
+use Rattle.bits.proofs.Tops.{bit7}
+use Rattle.bits.proofs.Carries.{over-sub, half-sub}
 use Rattle.cores.specs.declared.Core.{Core}
 use Rattle.cores.specs.State.{Sound, reg, withReg, withSreg, flag, cznvsh}
 use Rattle.cores.specs.Arithmetic.{sumFlags, subOf, sbcOf}
@@ -19,7 +20,7 @@ use Rattle.source.specs.Arithmetic.{sub, subi, sbc, sbci}
 use Rattle.source.specs.Flow.{cp, cpc, cpi}
 use Rattle.source.proofs.Steps.{leaves}
 use Rattle.source.proofs.Registers.{get-ok, set-ok, flag-ok, cznvsh-ok}
-use Rattle.source.proofs.Sums.{bit7, over-sub, half-sub, value-sub, carry-sub}
+use Rattle.source.proofs.Sums.{value-sub, carry-sub}
 
 -- a - b - c, as the port has it
 abbrev difference : ℕ → ℕ → Bool → ℕ
@@ -36,7 +37,7 @@ flags-are : (k : Core) (a b : ℕ) (c z : Bool) → a < 256 → b < 256
 unfolding minusOf
 flags-are k a b c z ha hb =
     let y = difference a b c in
-    rw (half-sub c a b hb (one-le c), bit7 a ha, bit7 b hb, bit7 y (omega arith), over-sub (leb 128 a) (leb 128 b) (leb 128 y))
+    rw (half-sub c a b hb, bit7 a ha, bit7 b hb, bit7 y (omega arith), over-sub (leb 128 a) (leb 128 b) (leb 128 y))
 
 plain-borrow : (a b : ℕ) → ltb a b ≡ ltb a (b + 0)
 plain-borrow a b = ap (ltb a) (sym (add-zero b))

@@ -7,6 +7,7 @@ use lib.IntN.{pos, _*ℤ_}
 use borrow.Author.Tests.{lt-ltb}
 use Rattle.basis.proofs.Products.{product-lt}
 use Rattle.alu.specs.Alu.{signedOf, productOf}
+use Rattle.bits.proofs.Tops.{bit15}
 use Rattle.cores.specs.State.{Sound, reg, withReg, withBusy}
 use Rattle.cores.specs.Arithmetic.{fmulOf, fmulsOf, fmulsuOf, mulOf, mulsOf, mulsuOf}
 use Rattle.source.specs.Monad.{Self}
@@ -14,7 +15,6 @@ use Rattle.source.specs.Integers.{u8-as-i8}
 use Rattle.source.specs.Arithmetic.{fmul, fmuls, fmulsu, mul, muls, mulsu}
 use Rattle.source.proofs.Steps.{leaves}
 use Rattle.source.proofs.Registers.{get-ok, set-word-ok, cz-ok}
-use Rattle.source.proofs.Sums.{bit15}
 use Rattle.source.proofs.Signed.{value-ss, value-su, range-ss, range-su, zero-is, value-shl, zero-shl}
 
 module _ (s : Self) (w : Sound (s .core)) where

@@ -3,13 +3,14 @@
 use mathlib.Core.Path.{_≡_, refl}
 use mathlib.Core.Bool.{Bool, true, false, _||_, Bool·beq}
 use mathlib.Core.List.{List}
-use Prim.Native.Nat.{ℕ, _+_, _*_, _%_, _<_}
+use Prim.Native.Nat.{ℕ, _+_, _*_, _%_}
 use native.Mathlib.Omega.{arith}
 use lib.Bits.{bitOr}
-use lib.Dec.{T, eqb, ltb}
+use lib.Dec.{eqb, ltb}
 use lib.ListN.{getD}
 use borrow.Author.Tests.{lt-ltb, ltb-true}
 use Rattle.basis.specs.Pick.{pick}
+use Rattle.basis.proofs.Choice.{same}
 use Rattle.instruction.specs.declared.Instruction.{Instruction}
 use Rattle.instruction.specs.Decode.{decodeOf}
 use Rattle.instruction.specs.Fields.{InFields, twoWords}
@@ -17,6 +18,8 @@ use Rattle.instruction.proofs.Laws.{fields-in-range}
 use Rattle.instruction.proofs.Tests.{each}
 use Rattle.memory.specs.Memory.{wordOf, programWordOf, hasWordOf}
 use Rattle.cores.specs.State.{Bytes}
+use Rattle.cores.proofs.Bounds.{program-word-lt}
+use Rattle.tick.proofs.Steps.{opAt}
 use Rattle.source_decode.specs.RustDecode.{rustDecode}
 use Rattle.source_decode.proofs.Decodes.{decodes-as-the-rust}
 use Rattle.source.specs.Monad.{Self, Outcome, ok, panic}
@@ -33,10 +36,6 @@ both-bytes-by x n false o e = pick-panic (ltb x n)
 -- the low byte is there where the high byte is
 both-bytes : {A : Type 0} (x n : ℕ) (o : Outcome A) → pick (ltb x n) (pick (ltb (x + 1) n) o panic) panic ≡ pick (ltb (x + 1) n) o panic
 both-bytes x n o = both-bytes-by x n (ltb (x + 1) n) o refl
-
-pub word-lt : (p : List ℕ) (pc : ℕ) → Bytes p → programWordOf p pc < 65536
-unfolding programWordOf
-word-lt p pc b = let h = b .byte-lt (pc * 2 + 1) in let l = b .byte-lt (pc * 2) in omega arith
 
 module _ (s : Self) (b : Bytes (s .progmem)) where
   bytes-joined : (pc : ℕ) → bitOr (getD (s .progmem) (pc * 2 + 1) 0 * 256 % 65536) (getD (s .progmem) (pc * 2) 0) ≡ wordOf (s .progmem) (pc * 2)
@@ -57,21 +56,12 @@ module _ (s : Self) (b : Bytes (s .progmem)) where
   word-ok pc = word-by pc (eqb (s .core .pc) 65535) refl
 
 -- ---- what they decode to
-abbrev pub opAt : List ℕ → ℕ → Instruction
-opAt p pc = decodeOf (programWordOf p pc) (programWordOf p (pc + 1))
+pub op-same : (p : List ℕ) (pc : ℕ) → Bytes p → rustDecode (programWordOf p pc) (programWordOf p (pc + 1)) ≡ opAt decodeOf p pc
+op-same p pc b = decodes-as-the-rust (programWordOf p pc) (programWordOf p (pc + 1)) (program-word-lt p pc b) (program-word-lt p (pc + 1) b)
 
-pub op-same : (p : List ℕ) (pc : ℕ) → Bytes p → rustDecode (programWordOf p pc) (programWordOf p (pc + 1)) ≡ opAt p pc
-op-same p pc b = decodes-as-the-rust (programWordOf p pc) (programWordOf p (pc + 1)) (word-lt p pc b) (word-lt p (pc + 1) b)
-
-pub op-in : (p : List ℕ) (pc : ℕ) → Bytes p → InFields (opAt p pc)
-op-in p pc b = fields-in-range (programWordOf p pc) (programWordOf p (pc + 1)) (word-lt p (pc + 1) b)
+pub op-in : (p : List ℕ) (pc : ℕ) → Bytes p → InFields (opAt decodeOf p pc)
+op-in p pc b = fields-in-range (programWordOf p pc) (programWordOf p (pc + 1)) (program-word-lt p (pc + 1) b)
 
 -- ---- the Rust's pattern is 01's list of instructions of two words
-equal : (a b : Bool) → T (Bool·beq a b) → a ≡ b
-equal true true t = refl
-equal true false t = absurd t
-equal false true t = absurd t
-equal false false t = refl
-
 pub pattern-is : (op : Instruction) → CALL|JMP|LDS|STS op ≡ twoWords op
-pattern-is op = equal (CALL|JMP|LDS|STS op) (twoWords op) (each (λ i. Bool·beq (CALL|JMP|LDS|STS i) (twoWords i)) (λ a b. tt) tt op)
+pattern-is op = same (CALL|JMP|LDS|STS op) (twoWords op) (each (λ i. Bool·beq (CALL|JMP|LDS|STS i) (twoWords i)) (λ a b. tt) tt op)

@@ -9,9 +9,9 @@ use lib.Bits.{bitAnd}
 use lib.Dec.{eqb}
 use lib.ListN.{set, length, length-set}
 use borrow.Author.Tests.{lt-ltb}
-use Rattle.basis.specs.Bit.{one, bit, put}
+use Rattle.basis.specs.Bit.{bit, put}
 use Rattle.basis.proofs.Bits.{or-put, and-put, put-lt}
-use Rattle.basis.proofs.Every.{agreed}
+use Rattle.bits.proofs.Booleans.{tests-agree2}
 use Rattle.cores.specs.State.{reg, word, withReg, withWord, withSreg, flag, cz, znvs, cznvs, cznvsh}
 use Rattle.source.specs.Monad.{Self, Outcome, ok, Rust, _>>_, withCore}
 use Rattle.source.specs.Integers.{_xor_}
@@ -38,15 +38,9 @@ pub count-set : (l : List ℕ) (i v : ℕ) → length l ≡ 32 → length (set l
 count-set l i v e = length-set l i v ∙ e
 
 -- ---- one bit of a byte, by a mask
-pub bits-same : (x y : Bool) → one x ≡ one y → x ≡ y
-bits-same true true h = refl
-bits-same false false h = refl
-bits-same true false h = absurd (omega arith)
-bits-same false true h = absurd (omega arith)
-
 pub and-flag : (x b : ℕ) → x < 256 → b < 8 → not (eqb (bitAnd x (1 * 2 ^ b % 256)) 0) ≡ bit x b
 unfolding bit
-and-flag x b hx hb = bits-same _ _ (agreed 256 8 (λ x b. one (not (eqb (bitAnd x (1 * 2 ^ b % 256)) 0))) (λ x b. one (bit x b)) tt x b hx hb)
+and-flag = tests-agree2 256 8 (λ x b. not (eqb (bitAnd x (1 * 2 ^ b % 256)) 0)) bit tt
 
 pub flag-ok : (s : Self) (b : ℕ) → s .core .sreg < 256 → b < 8 → get-sreg-bit b s ≡ ok (flag (s .core) b) s
 unfolding get-sreg-bit

@@ -1,31 +1,40 @@
--- The Rust's i8 and i16 against the port's bits: products and doubled products. Four tests of 65,536 cases, computed.
+-- The Rust's i8 and i16 against the port's bits: products and doubled products. Two tests of 65,536 cases, computed.
 -- Assumes nothing.
 use mathlib.Core.Path.{_≡_, refl, sym, ap, _∙_}
 use mathlib.Core.Bool.{Bool, true, false}
 use Prim.Native.Nat.{ℕ, suc, _+_, _*_, _%_, _-_, _<_}
 use native.Mathlib.Omega.{arith}
-use lib.Dec.{eqb, ltb}
+use lib.Dec.{eqb, ltb, leb}
 use lib.IntN.{ℤ, pos, negsuc, _*ℤ_}
 use borrow.Author.Tests.{ltb-true, ltb-false, ne-eqb}
 use Rattle.basis.specs.Pick.{pick}
-use Rattle.basis.specs.Bit.{one}
-use Rattle.basis.proofs.Every.{agreed}
 use Rattle.alu.specs.Alu.{signedOf, productOf, doubledOf}
+use Rattle.bits.specs.Bits.{signedByte}
+use Rattle.bits.proofs.Booleans.{tests-agree2}
+use Rattle.bits.proofs.Tops.{bit7, clear}
+use Rattle.bits.proofs.Products.{both-signed, first-signed}
 use Rattle.source.specs.Integers.{u8-as-i8, u16-as-i16, signed-as-u16, in-i16, is-zero}
-use Rattle.source.proofs.Registers.{bits-same}
+
+-- ---- a byte as an i8, by its size and by its top bit
+byte-signed-by : (x : ℕ) (t : Bool) → leb 128 x ≡ t → u8-as-i8 x ≡ pick t (negsuc (255 - x)) (pos x)
+byte-signed-by x true e = rw (← clear 128 x, e)
+byte-signed-by x false e = rw (← clear 128 x, e)
+
+byte-signed : (x : ℕ) → x < 256 → u8-as-i8 x ≡ signedByte x
+byte-signed x h = rw (bit7 x h) (byte-signed-by x (leb 128 x) refl)
 
 -- ---- signed by signed, and signed by unsigned: the value, and that no product overflows an i16
 pub value-ss : (a b : ℕ) → a < 256 → b < 256 → signed-as-u16 (u8-as-i8 a *ℤ u8-as-i8 b) ≡ productOf (signedOf a) (signedOf b)
-value-ss = agreed 256 256 (λ a b. signed-as-u16 (u8-as-i8 a *ℤ u8-as-i8 b)) (λ a b. productOf (signedOf a) (signedOf b)) tt
+value-ss a b ha hb = rw (byte-signed a ha, byte-signed b hb) (both-signed a b ha hb)
 
 pub value-su : (a b : ℕ) → a < 256 → b < 256 → signed-as-u16 (u8-as-i8 a *ℤ pos b) ≡ productOf (signedOf a) b
-value-su = agreed 256 256 (λ a b. signed-as-u16 (u8-as-i8 a *ℤ pos b)) (λ a b. productOf (signedOf a) b) tt
+value-su a b ha hb = rw (byte-signed a ha) (first-signed a b ha hb)
 
 pub range-ss : (a b : ℕ) → a < 256 → b < 256 → in-i16 (u8-as-i8 a *ℤ u8-as-i8 b) ≡ true
-range-ss a b ha hb = bits-same _ _ (agreed 256 256 (λ a b. one (in-i16 (u8-as-i8 a *ℤ u8-as-i8 b))) (λ a b. 1) tt a b ha hb)
+range-ss = tests-agree2 256 256 (λ a b. in-i16 (u8-as-i8 a *ℤ u8-as-i8 b)) (λ a b. true) tt
 
 pub range-su : (a b : ℕ) → a < 256 → b < 256 → in-i16 (u8-as-i8 a *ℤ pos b) ≡ true
-range-su a b ha hb = bits-same _ _ (agreed 256 256 (λ a b. one (in-i16 (u8-as-i8 a *ℤ pos b))) (λ a b. 1) tt a b ha hb)
+range-su = tests-agree2 256 256 (λ a b. in-i16 (u8-as-i8 a *ℤ pos b)) (λ a b. true) tt
 
 -- ---- zero as an i16 and as its bits
 pub zero-is : (z : ℤ) → in-i16 z ≡ true → is-zero z ≡ eqb (signed-as-u16 z) 0

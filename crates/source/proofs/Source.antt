@@ -17,11 +17,10 @@ use Rattle.tick.specs.declared.Answer.the-variants.{Waited, Entered, End}
 use Rattle.execute.specs.Needs.{Needs, refusal, pushNeeds, needs, fetched, withFetch}
 use Rattle.execute.specs.Execute.{executed}
 use Rattle.tick.specs.Tick.{Tick, numberOf, refuses, gives, decided, due, entry, executedTick, stepped, entersOrSteps, ticked, tickOf, inPlace}
+use Rattle.tick.proofs.Steps.{refusal-le, done-refuses-not, opAt}
 use Rattle.source.specs.Monad.{Self, panic}
 use Rattle.source.specs.Statement.{Matches, panics, selfOf, EqualsTheRust, RefusedExactlyWhereItPanics, CodeEqualsTheRust, InPlaceEqualsTheRust}
-use Rattle.source.proofs.Needs.{to-4}
-use Rattle.source.proofs.Program.{opAt}
-use Rattle.source.proofs.Tick.{shown, executed-calm, tick-is}
+use Rattle.source.proofs.Tick.{shown, tick-is}
 
 -- ---- a refusal of a tick is one of 1 to 4, from a core that is not too busy
 abbrev Low : Tick → Type 0
@@ -32,7 +31,7 @@ never t c e = let z : _≡_ {A = Bool} false true = sym c ∙ e in let n : _≡_
 
 decided-by : (n : Needs) (k : Core) (m : List ℕ) (t : Tick) (b : Bool) → eqb (refusal n) 0 ≡ b → refuses (t .answer) ≡ false → Low (decided n k m t)
 decided-by n k m t true e c = rw e (never t c)
-decided-by n k m t false e c = rw e λ r. let g = eqb-false (refusal n) 0 e in (omega arith, to-4 n)
+decided-by n k m t false e c = rw e λ r. let g = eqb-false (refusal n) 0 e in (omega arith, refusal-le n)
 
 decided-low : (n : Needs) (k : Core) (m : List ℕ) (t : Tick) → refuses (t .answer) ≡ false → Low (decided n k m t)
 decided-low n k m t c = decided-by n k m t (eqb (refusal n) 0) refl c
@@ -40,10 +39,10 @@ decided-low n k m t c = decided-by n k m t (eqb (refusal n) 0) refl c
 stepped-low : (k j : Core) (p m : List ℕ) → Low (stepped decodeOf k j p m)
 unfolding stepped
 stepped-low k j p m =
-    let op = opAt p (j .pc) in
+    let op = opAt decodeOf p (j .pc) in
     let i = withPc j (j .pc + 1) in
     let x = executed decodeOf i op p m in
-    decided-low (withFetch (fetched p (j .pc) op) (needs decodeOf i op p m)) k m (executedTick x) (executed-calm (x .done))
+    decided-low (withFetch (fetched p (j .pc) op) (needs decodeOf i op p m)) k m (executedTick x) (done-refuses-not (x .done))
 
 enters-low : (k : Core) (p m : List ℕ) (o : Offer) (end : Bool) → eqb (k .pc) 65535 ≡ end → Low (entersOrSteps decodeOf k p m o)
 unfolding entersOrSteps

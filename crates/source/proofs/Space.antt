@@ -10,8 +10,9 @@ use lib.Bits.{bitAnd, bitOr, and-mask, and-high, or-shifted, or-shifted-r}
 use lib.ListN.{getD, length}
 use borrow.Author.Tests.{ltb-true, ne-eqb}
 use Rattle.basis.specs.Pick.{pick}
+use Rattle.basis.proofs.Choice.{either}
 use Rattle.cores.specs.declared.Core.{Core}
-use Rattle.cores.specs.State.{reg, withSp}
+use Rattle.cores.specs.State.{Out, reg, withSp}
 use Rattle.cores.specs.Transfer.{reachOf, dataOf, setDataOf}
 use Rattle.source.specs.Monad.{Self, ok, panic, _>>=_, if_then_else_}
 use Rattle.source.specs.Integers.{as-u8}
@@ -53,20 +54,12 @@ load-by s at false false false p q r h = rw (p, q, r)
 pub load-ok : (s : Self) (at : ℕ) → s .core .sp < 65536 → get-data-space at s ≡ pick (reachOf at (length (s .ds))) (ok (dataOf (s .core) at (s .ds)) s) panic
 load-ok s at h = load-by s at (eqb at 63) (eqb at 62) (eqb at 61) refl refl refl h
 
--- a store leaves PC and the registers
-kept-by : (k : Core) (at v : ℕ) (m : List ℕ) (x y z : Bool) → eqb at 63 ≡ x → eqb at 62 ≡ y → eqb at 61 ≡ z
-    → (setDataOf k at v m .core .pc ≡ k .pc) × (setDataOf k at v m .core .regs ≡ k .regs)
-unfolding setDataOf withSp
-kept-by k at v m true y z p q r = (rw p, rw p)
-kept-by k at v m false true z p q r = (rw (p, q), rw (p, q))
-kept-by k at v m false false true p q r = (rw (p, q, r), rw (p, q, r))
-kept-by k at v m false false false p q r = (rw (p, q, r), rw (p, q, r))
-
+-- a store leaves PC
 pub pc-kept : (k : Core) (at v : ℕ) (m : List ℕ) → setDataOf k at v m .core .pc ≡ k .pc
-pc-kept k at v m = kept-by k at v m (eqb at 63) (eqb at 62) (eqb at 61) refl refl refl .0
-
-pub regs-kept : (k : Core) (at v : ℕ) (m : List ℕ) → setDataOf k at v m .core .regs ≡ k .regs
-regs-kept k at v m = kept-by k at v m (eqb at 63) (eqb at 62) (eqb at 61) refl refl refl .1
+unfolding setDataOf withSp
+pc-kept k at v m =
+    let P : Out → Type 0 = λ o. o .core .pc ≡ k .pc in
+    either P (eqb at 0x3F) _ _ refl (either P (eqb at 0x3E) _ _ refl (either P (eqb at 0x3D) _ _ refl refl))
 
 -- ---- an I/O register is the data space's
 pub io-load : (s : Self) (at : ℕ) → s .core .sp < 65536 → get-io-register at s ≡ pick (reachOf at (length (s .ds))) (ok (dataOf (s .core) at (s .ds)) s) panic

@@ -53,11 +53,3 @@ under false f x y h = refl
 pub and-under : {A : Type 0} (a b : Bool) (f : ℕ → Outcome A) (x y : ℕ) → (b ≡ true → x ≡ y) → pick a (pick b (f x) panic) panic ≡ pick (a && b) (f y) panic
 and-under true b f x y h = under b f x y h
 and-under false b f x y h = refl
-
-pub and-left : (a b : Bool) → a && b ≡ true → a ≡ true
-and-left true b e = refl
-and-left false b e = e
-
-pub and-assoc : (a b c : Bool) → a && (b && c) ≡ (a && b) && c
-and-assoc true b c = refl
-and-assoc false b c = refl

@@ -1,7 +1,7 @@
 -- The Rust's tick is 01's, as one equation: what the Rust would show of 01's tick, a refusal being its panic.
 -- Assumes nothing.
 use mathlib.Core.Path.{_≡_, refl, sym}
-use mathlib.Core.Bool.{Bool, true, false, not, _&&_, _||_, and-true}
+use mathlib.Core.Bool.{Bool, true, false, not, _&&_, _||_, and-true, and-assoc}
 use mathlib.Core.List.{List}
 use Prim.Native.Nat.{ℕ, _+_, _/_, _%_}
 use native.Mathlib.Omega.{arith}
@@ -14,22 +14,21 @@ use Rattle.instruction.specs.Fields.{twoWords}
 use Rattle.memory.specs.Memory.{hasWordOf}
 use Rattle.cores.specs.declared.Core.{Core}
 use Rattle.cores.specs.State.{Sound, Bytes, out, withPc, withSp, withBusy, withInhibit, withService, flag}
-use Rattle.execute.specs.declared.Done.{Done}
-use Rattle.execute.specs.declared.Done.the-variants as done
 use Rattle.tick.specs.declared.Offer.{Offer}
 use Rattle.tick.specs.declared.Offer.the-variants.{Vector, Nothing}
 use Rattle.tick.specs.declared.Answer.the-variants.{Entered, End}
 use Rattle.execute.specs.Needs.{Needs, refusal, pushNeeds, needs, fetched, withFetch}
 use Rattle.execute.specs.Execute.{executed}
-use Rattle.tick.specs.Tick.{Tick, answerOf, refuses, stops, gives, decided, due, entry, executedTick, stepped, entersOrSteps, ticked, tickOf}
+use Rattle.tick.specs.Tick.{Tick, refuses, stops, gives, decided, due, entry, executedTick, stepped, entersOrSteps, ticked, tickOf}
+use Rattle.tick.proofs.Steps.{done-refuses-not, opAt}
 use Rattle.source.specs.Monad.{Self, Outcome, ok, panic, after, withCore, return}
 use Rattle.source.specs.Registers.{ds·write}
 use Rattle.source.specs.Tick.{service-pending, entered-by, handle-interrupts, fetch, execute, tick}
-use Rattle.source.proofs.Steps.{withOut, after-pick, and-pick, and-assoc}
+use Rattle.source.proofs.Steps.{withOut, after-pick, and-pick}
 use Rattle.source.proofs.Registers.{flag-ok}
 use Rattle.source.proofs.Stack.{push-tests, less-two, high-byte}
 use Rattle.source.proofs.Needs.{met, met-is}
-use Rattle.source.proofs.Program.{opAt, word-ok, unused-word-ok, op-same, op-in, pattern-is}
+use Rattle.source.proofs.Program.{word-ok, unused-word-ok, op-same, op-in, pattern-is}
 use Rattle.source.proofs.Dispatch.{dispatch-is}
 
 -- what the Rust shows of a tick that is not refused, and of any
@@ -38,14 +37,6 @@ shown s t = ok (not (stops (t .answer))) (withOut s (out (t .core) (t .bytes)))
 
 abbrev pub seen : Self → Tick → Outcome Bool
 seen s t = pick (refuses (t .answer)) panic (shown s t)
-
--- an executed instruction is not refused
-pub executed-calm : (d : Done) → refuses (answerOf d) ≡ false
-executed-calm done.Ran = refl
-executed-calm done.Sleep = refl
-executed-calm done.Watchdog = refl
-executed-calm done.Undefined = refl
-executed-calm done.Break = refl
 
 -- decided first and then done, or done until it panics: the same
 decided-by : (s : Self) (n : Needs) (t : Tick) (b : Bool) → eqb (refusal n) 0 ≡ b → refuses (t .answer) ≡ false → seen s (decided n (s .core) (s .ds) t) ≡ pick b (shown s t) panic
@@ -89,8 +80,8 @@ interrupts-is s w = interrupts-by s (s .core .inhibit) (flag (s .core) 7) (s .co
 -- ---- the fetch
 module _ (s : Self) (q : Bytes (s .progmem)) where
   -- by whether the instruction has two words, and by whether PC is 65,535
-  fetch-by : (two end : Bool) → twoWords (opAt (s .progmem) (s .core .pc)) ≡ two → eqb (s .core .pc) 65535 ≡ end
-      → fetch s ≡ pick (end || hasWordOf (s .progmem) (s .core .pc) && pick two (hasWordOf (s .progmem) (s .core .pc + 1)) true) (ok (opAt (s .progmem) (s .core .pc)) s) panic
+  fetch-by : (two end : Bool) → twoWords (opAt decodeOf (s .progmem) (s .core .pc)) ≡ two → eqb (s .core .pc) 65535 ≡ end
+      → fetch s ≡ pick (end || hasWordOf (s .progmem) (s .core .pc) && pick two (hasWordOf (s .progmem) (s .core .pc + 1)) true) (ok (opAt decodeOf (s .progmem) (s .core .pc)) s) panic
   unfolding fetch
   fetch-by true true e f = simp (word-ok s q, f, unused-word-ok s q, op-same (s .progmem) (s .core .pc) q, pattern-is, e)
   fetch-by false true e f = simp (word-ok s q, f, unused-word-ok s q, op-same (s .progmem) (s .core .pc) q, pattern-is, e)
@@ -98,8 +89,8 @@ module _ (s : Self) (q : Bytes (s .progmem)) where
   fetch-by false false e f = simp (word-ok s q, f, unused-word-ok s q, after-pick, op-same (s .progmem) (s .core .pc) q, pattern-is, e, and-true)
 
   fetch-is : (end : Bool) → eqb (s .core .pc) 65535 ≡ end
-      → fetch s ≡ pick (end || fetched (s .progmem) (s .core .pc) (opAt (s .progmem) (s .core .pc))) (ok (opAt (s .progmem) (s .core .pc)) s) panic
-  fetch-is end f = fetch-by (twoWords (opAt (s .progmem) (s .core .pc))) end refl f
+      → fetch s ≡ pick (end || fetched (s .progmem) (s .core .pc) (opAt decodeOf (s .progmem) (s .core .pc))) (ok (opAt decodeOf (s .progmem) (s .core .pc)) s) panic
+  fetch-is end f = fetch-by (twoWords (opAt decodeOf (s .progmem) (s .core .pc))) end refl f
 
 -- the core whose PC is behind the opcode
 abbrev behind : Self → Self
@@ -117,7 +108,7 @@ module _ (s : Self) (w : Sound (s .core)) (m : Bytes (s .ds)) (q : Bytes (s .pro
   unfolding execute stepped withInhibit withPc
   execute-step e =
       let pc = s .core .pc in
-      let op = opAt (s .progmem) pc in
+      let op = opAt decodeOf (s .progmem) pc in
       let l = w .pc-lt in
       let g = eqb-false pc 65535 e in
       let n = needs decodeOf (behind s .core) op (s .progmem) (s .ds) in
@@ -129,9 +120,9 @@ module _ (s : Self) (w : Sound (s .core)) (m : Bytes (s .ds)) (q : Bytes (s .pro
         lt-ltb (pc + 1) 65536 (omega arith),
         dispatch-is (behind s) (behind-sound (s .core) w g) m q op (op-in (s .progmem) pc q),
         and-pick f (met n),
-        and-assoc f (n .program),
+        ← and-assoc f (n .program),
       )
-      (sym (seen-decided s (withFetch f n) (executedTick x) (executed-calm (x .done))))
+      (sym (seen-decided s (withFetch f n) (executedTick x) (done-refuses-not (x .done))))
 
   execute-is : (end : Bool) → eqb (s .core .pc) 65535 ≡ end
       → execute (withCore s (withInhibit (s .core) false))

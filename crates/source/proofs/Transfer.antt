@@ -11,17 +11,19 @@ use lib.Seq.{getD-set-same, getD-set-other, set-out}
 use borrow.Author.Tests.{lt-ltb, le-ltb, ltb-true, ltb-false, eqb-true, eqb-false}
 use Rattle.basis.specs.Pick.{pick}
 use Rattle.basis.specs.Bit.{up, down}
+use Rattle.basis.proofs.Both.{both-true}
 use Rattle.cores.specs.State.{Sound, reg, word, withReg, withWord, withBusy, withSp, withPc, out}
 use Rattle.cores.specs.Transfer.{reachOf, dataOf, setDataOf, inOf, pointedOf, wordIf, ldOf, stOf, ldsOf, lpmOf, popOf, pushOf, stsOf}
 use Rattle.cores.specs.Flow.{overSecond}
+use Rattle.cores.proofs.Space.{store-regs}
 use Rattle.source.specs.Monad.{Self, Outcome, ok, panic, Rust, _>>=_, _>>_, return, withCore}
 use Rattle.source.specs.Integers.{pc+=}
 use Rattle.source.specs.Registers.{get-ps, progmem·read}
 use Rattle.source.specs.Transfer.{in-, ld, st, ldi, lds, lpm, mov, movw, push, pop, sts}
 use Rattle.source.specs.Transfer as rust
-use Rattle.source.proofs.Steps.{leaves, leavesOut, withOut, after-pick, swapped, under, and-left}
+use Rattle.source.proofs.Steps.{leaves, leavesOut, withOut, after-pick, swapped, under}
 use Rattle.source.proofs.Registers.{get-ok, set-ok, get-word-ok, set-word-ok, count-set}
-use Rattle.source.proofs.Space.{store-ok, load-ok, io-load, io-store, load-any, store-any, pc-kept, regs-kept}
+use Rattle.source.proofs.Space.{store-ok, load-ok, io-load, io-store, load-any, store-any, pc-kept}
 
 -- `self.pc += 1` has room
 pub room : (pc : ℕ) → ltb (pc + 1) 65536 ≡ ltb pc 65535
@@ -33,7 +35,7 @@ room pc = go (ltb pc 65535) refl
 
 -- where it has, it does not wrap
 pub room-up : {A : Type 0} (pc : ℕ) (b : Bool) (f : ℕ → Outcome A) → pick (ltb pc 65535 && b) (f (pc + 1)) panic ≡ pick (ltb pc 65535 && b) (f (up pc 1)) panic
-room-up pc b f = under (ltb pc 65535 && b) f (pc + 1) (up pc 1) λ e. let h = ltb-true pc 65535 (and-left (ltb pc 65535) b e) in omega arith
+room-up pc b f = under (ltb pc 65535 && b) f (pc + 1) (up pc 1) λ e. let h = ltb-true pc 65535 (both-true (ltb pc 65535) b e .0) in omega arith
 
 count-set2 : (l : List ℕ) (i v j u : ℕ) → length l ≡ 32 → length (set (set l i v) j u) ≡ 32
 count-set2 l i v j u e = count-set (set l i v) j u (count-set l i v e)
@@ -91,7 +93,7 @@ module _ (s : Self) (w : Sound (s .core)) where
       let e = w .count in
       let h = w .sp-lt in
       let b = w .reg-lt r in
-      let g = ap length (regs-kept (withBusy (s .core) 1) (word (s .core) p + q) (reg (s .core) r) (s .ds)) ∙ e in
+      let g = ap length (store-regs (withBusy (s .core) 1) (word (s .core) p + q) (reg (s .core) r) (s .ds)) ∙ e in
       simp (get-word-ok, set-word-ok, store-any, after-pick)
   st-is r p q true true n hr hp = absurd n
 
