@@ -7,8 +7,9 @@ use Prim.Native.Nat.{ℕ, zero, suc, _+_, _-_, _≤_, _<_}
 use native.Mathlib.Nat.{eq-or-lt-of-le}
 use native.Mathlib.Decide.{decLt}
 use native.Mathlib.Omega.{arith}
+use Rattle.basis.proofs.Choice.{clash}
 use Rattle.promises.specs.Handlers.{iterated, FirstReti, Place, stretch, handler, waits3, waits2, waits1, walk, counted, placeAt, countedAt, handlerTicks}
-use Rattle.promises.proofs.Logic.{clash, grow, reti-unique}
+use Rattle.promises.proofs.Logic.{grow, reti-unique}
 use Rattle.promises.specs.Machine.{Machine, Given, Restored}
 use Rattle.promises.proofs.Lockstep as step
 

@@ -8,6 +8,7 @@ use Prim.Native.Nat.{ℕ}
 use lib.Dec.{eqb, leb}
 use Rattle.basis.specs.Pick.{pick}
 use Rattle.basis.specs.Bit.{up}
+use Rattle.basis.proofs.Choice.{cases}
 use Rattle.alu.specs.Alu.{signedOf}
 use Rattle.instruction.specs.Decode.{decodeOf}
 use Rattle.instruction.specs.Fields.{twoWords}
@@ -21,7 +22,6 @@ use Rattle.execute.specs.Needs.{needs, nothing}
 use Rattle.execute.specs.Execute.{executed, ran}
 use Rattle.promises.specs.RegisterOnly.{Kind, registerOnly, return, other, kindOf}
 use Rattle.promises.specs.Interrupts.{Kept}
-use Rattle.promises.proofs.Logic.{cases}
 
 -- ---- what is kept of a core, and a core with other registers and SREG
 abbrev pub keptOf : Core → Kept

@@ -6,8 +6,9 @@ use mathlib.Core.Bool.{Bool, true, false}
 use Prim.Native.Nat.{ℕ, zero, suc, _+_, _*_, _≤_, _<_}
 use native.Mathlib.Nat.{eq-or-lt-of-le}
 use native.Mathlib.Omega.{arith}
+use Rattle.basis.proofs.Choice.{clash}
 use Rattle.promises.specs.Handlers.{iterated, FirstReti, OfHandler, stretch, walk, counted, placeAt, countedAt, handlerTicks}
-use Rattle.promises.proofs.Logic.{clash, grow}
+use Rattle.promises.proofs.Logic.{grow}
 use Rattle.promises.specs.Machine.{Machine, Given, AtEnd, InStretch, after, entersAt, returnsAt, quiet}
 
 module _ {M : Machine} (G : Given M) where

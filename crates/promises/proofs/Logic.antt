@@ -1,27 +1,14 @@
--- A Boolean is not both, a choice by its test, a fact at every number below a bound, and first numbers.
+-- A fact at every number below a bound, and first numbers.
 -- Assumes nothing.
-use mathlib.Core.Path.{_≡_, refl, sym, _∙_, subst}
+use mathlib.Core.Path.{_≡_, sym, _∙_, subst}
 use mathlib.Core.Logic.{inl, inr}
-use mathlib.Core.Bool.{Bool, true, false, _&&_}
+use mathlib.Core.Bool.{Bool}
 use Prim.Native.Nat.{ℕ, suc, _≤_, _<_}
 use native.Mathlib.Nat.{eq-or-lt-of-le}
 use native.Mathlib.Decide.{decLt}
 use native.Mathlib.Omega.{arith}
-use lib.Dec.{T}
-use Rattle.basis.specs.Pick.{pick}
+use Rattle.basis.proofs.Choice.{clash}
 use Rattle.promises.specs.Handlers.{First, FirstReti}
-
-pub clash : {A : Type 0} → true ≡ false → A
-clash z = absurd (subst T z tt)
-
-pub both-true : (a b : Bool) → (a && b) ≡ true → (a ≡ true) × (b ≡ true)
-both-true true b h = (refl, h)
-both-true false b h = clash (sym h)
-
--- of a choice holds what holds of each side where its test is so
-pub cases : {A : Type 0} (P : A → Type 0) (c : Bool) (x y : A) → (c ≡ true → P x) → (c ≡ false → P y) → P (pick c x y)
-cases P true x y f g = f refl
-cases P false x y f g = g refl
 
 -- from below j, and j itself, to below the next
 pub grow : (P : ℕ → Type 0) (j : ℕ) → ((u : ℕ) → u < j → P u) → P j → (u : ℕ) → u < suc j → P u

@@ -10,15 +10,10 @@ use borrow.Author.Tests.{eq-eqb, ne-eqb, eqb-true}
 use lib.Dec.{T, T-not, eqb, eqb→eq, leb, leb→le}
 use Rattle.basis.proofs.Both.{both-left, both-right}
 use Rattle.basis.proofs.Every.{every, at}
+use Rattle.basis.proofs.Choice.{same}
 use Rattle.promises.specs.Handlers.{First, FirstReti}
 use Rattle.promises.specs.Interrupts.{State, Offers, pc, sp, byteAt, after, numberAt, enters, returns, Ended, Restored, Begins, Assumed, AssumedTo}
 use Rattle.promises.proofs.Logic.{reti-unique}
-
-same-bool : (a b : Bool) → T (Bool·beq a b) → a ≡ b
-same-bool true true t = refl
-same-bool true false t = absurd t
-same-bool false true t = absurd t
-same-bool false false t = refl
 
 -- two lists of numbers are the same, as a test
 abbrev pub sameList : List ℕ → List ℕ → Bool
@@ -100,10 +95,10 @@ module _ (p : List ℕ) (s : State) (n : ℕ) where
 
     entered-at : (t : ℕ) → t < J → enters p s v t ≡ true → t ≡ e
     entered-at t h x =
-        eqb-true t e (sym (same-bool (enters p s v t) (eqb t e) (at (λ t. Bool·beq (enters p s v t) (eqb t e)) J (w .entry) t h)) ∙ x)
+        eqb-true t e (sym (same (enters p s v t) (eqb t e) (at (λ t. Bool·beq (enters p s v t) (eqb t e)) J (w .entry) t h)) ∙ x)
 
     returns-at : (t : ℕ) → t < J → returns p s v t ≡ eqb t r
-    returns-at t h = same-bool (returns p s v t) (eqb t r) (at (λ t. Bool·beq (returns p s v t) (eqb t r)) J (w .reti) t h)
+    returns-at t h = same (returns p s v t) (eqb t r) (at (λ t. Bool·beq (returns p s v t) (eqb t r)) J (w .reti) t h)
 
     pub walked-reti : FirstReti (returns p s v) e r
     walked-reti =

@@ -9,6 +9,8 @@ use native.Mathlib.Omega.{arith}
 use borrow.Author.Tests.{leb-true, ne-eqb}
 use lib.Dec.{eqb, leb}
 use Rattle.basis.specs.Bit.{up}
+use Rattle.basis.proofs.Choice.{clash}
+use Rattle.basis.proofs.Both.{both-true}
 use Rattle.instruction.specs.Decode.{decodeOf}
 use Rattle.instruction.specs.declared.Instruction.{Instruction}
 use Rattle.instruction.specs.declared.Instruction.the-variants.{RETI}
@@ -22,12 +24,12 @@ use Rattle.execute.specs.declared.Done.{Done}
 use Rattle.tick.specs.declared.Offer.{Offer}
 use Rattle.tick.specs.declared.Offer.the-variants.{Vector, Nothing}
 use Rattle.tick.specs.declared.Answer.the-variants.{Ran, Entered}
+use Rattle.tick.proofs.Steps.{every-decided, every-due, onward, every-tick}
 use Rattle.promises.specs.RegisterOnly.{Kind, registerOnly, return, other, kindOf, isReturn}
 use Rattle.promises.specs.Interrupts.{State, Kept, kept, pc, sp, tickAt, next, instructionAt, Stretch}
-use Rattle.promises.proofs.Logic.{clash, both-true}
 use Rattle.promises.specs.Machine.{Machine, Laws, Waits, Runs, Enters, Returns}
 use Rattle.promises.proofs.Instructions.{keptOf, withKept, doesOf, waitsOf, Fact, fact}
-use Rattle.promises.proofs.Ticks.{onward, done-enters-not, every-due, every-decided, every-tick, busy-tick, free-tick}
+use Rattle.promises.proofs.Ticks.{done-enters-not, busy-tick, free-tick}
 use Rattle.promises.proofs.Stack.{low-byte, high-byte, met, push-room}
 
 -- ---- 01's core with its data, as a machine
@@ -117,7 +119,7 @@ module _ (p : List ℕ) where
     unfolding entersOrSteps
     run-offered (Vector v) =
         every-decided (λ t. 16 ≤ number t → entersIn t ≡ false → RunsIn t) (pushNeeds k m) k m (gives Entered (entry k v m .core) (entry k v m .bytes))
-        (λ n small a e. absurd (omega arith)) (λ z a e. clash e)
+        (λ n g l a e. absurd (omega arith)) (λ z a e. clash e)
     run-offered Nothing = λ a e. rw run-tick runs
 
     run-free : (o : Offer) → 16 ≤ number (tickOf k p m o) → entersIn (tickOf k p m o) ≡ false → RunsIn (tickOf k p m o)
@@ -133,8 +135,8 @@ module _ (p : List ℕ) where
 
   none-enters : (o : Offer) (s : State) → due (s .core) o ≡ Nothing → entersIn (tickAt p o s) ≡ false
   none-enters o s h =
-      every-tick (λ t. entersIn t ≡ false) (s .core) p (s .bytes) o (λ n small. ne-eqb n 17 (omega arith)) (λ e. refl)
-      (λ v e r. let z : Vector v ≡ Nothing = sym e ∙ h in cc) refl (λ b r. done-enters-not (doneBy (s .core) (s .bytes)))
+      every-tick decodeOf (λ t. entersIn t ≡ false) (s .core) p (s .bytes) o (λ n g l. ne-eqb n 17 (omega arith)) (λ g l. refl)
+      (λ b v e r. let z : Vector v ≡ Nothing = sym e ∙ h in cc) (λ b e l. refl) (λ b e l r. done-enters-not (doneBy (s .core) (s .bytes)))
 
   -- ---- an entry
   entry-stores : (k : Core) (m : List ℕ) (v : ℕ) → refusal (pushNeeds k m) ≡ 0
@@ -152,12 +154,12 @@ module _ (p : List ℕ) where
   enter-law o s =
       let k = s .core in
       let m = s .bytes in
-      every-tick (λ t. entersIn t ≡ true → Enters (avr p) s (stateOf t)) k p m o
-      (λ n small z. clash (sym z ∙ ne-eqb n 17 (omega arith)))
-      (λ e z. clash (sym z))
-      (λ v e r z. entry-stores k m v r)
-      (λ z. clash (sym z))
-      (λ b r z. clash (sym z ∙ done-enters-not (doneBy k m)))
+      every-tick decodeOf (λ t. entersIn t ≡ true → Enters (avr p) s (stateOf t)) k p m o
+      (λ n g l z. clash (sym z ∙ ne-eqb n 17 (omega arith)))
+      (λ g l z. clash (sym z))
+      (λ b v e r z. entry-stores k m v r)
+      (λ b e l z. clash (sym z))
+      (λ b e l r z. clash (sym z ∙ done-enters-not (doneBy k m)))
 
   -- ---- in service
   serving-step : (op : Instruction) (c : Kind) (i : Core) (m : List ℕ) → i .busy ≡ 0 → Fact c op i p m
@@ -172,9 +174,9 @@ module _ (p : List ℕ) where
   serve-law o s h =
       let k = s .core in
       let op = instructionAt p (pc s) in
-      every-tick (λ t. returnsIn p (pc s) t ≡ false → t .core .«in_service» ≡ true) k p (s .bytes) o
-      (λ n small r. h) (λ e r. h) (λ v e x r. refl) (λ r. h)
-      (λ b x r. serving-step op (kindOf op) (onward k) (s .bytes) b (fact op (onward k) p (s .bytes)) r ∙ h)
+      every-tick decodeOf (λ t. returnsIn p (pc s) t ≡ false → t .core .«in_service» ≡ true) k p (s .bytes) o
+      (λ n g l r. h) (λ g l r. h) (λ b v e x r. refl) (λ b e l r. h)
+      (λ b e l x r. serving-step op (kindOf op) (onward k) (s .bytes) b (fact op (onward k) p (s .bytes)) r ∙ h)
 
   -- ---- RETI
   kind-return : (op : Instruction) → isReturn (kindOf op) ≡ true → op ≡ RETI
@@ -200,12 +202,12 @@ module _ (p : List ℕ) where
   reti-tick o k m op =
       let Back : Tick → Type 0 = λ t. Returns (avr p) (record { core = k; bytes = m }) (stateOf t) in
       let Met : Instruction → Type 0 = λ op. refusal (withFetch (fetched p (k .pc) op) (needs decodeOf (onward k) op p m)) ≡ 0 in
-      every-tick (λ t. eqb (number t) 18 ≡ true → Back t) k p m o
-      (λ n small z. clash (sym z ∙ ne-eqb n 18 (omega arith)))
-      (λ e z. clash (sym z))
-      (λ v e x z. clash (sym z))
-      (λ z. clash (sym z))
-      (λ b x z. subst (λ op. Met op → Back (executedTick (executed decodeOf (onward k) op p m))) (sym op) (reti k m) x)
+      every-tick decodeOf (λ t. eqb (number t) 18 ≡ true → Back t) k p m o
+      (λ n g l z. clash (sym z ∙ ne-eqb n 18 (omega arith)))
+      (λ g l z. clash (sym z))
+      (λ b v e x z. clash (sym z))
+      (λ b e l z. clash (sym z))
+      (λ b e l x z. subst (λ op. Met op → Back (executedTick (executed decodeOf (onward k) op p m))) (sym op) (reti k m) x)
 
   pub reti-law : (o : Offer) (s : State) → returnsIn p (pc s) (tickAt p o s) ≡ true → Returns (avr p) s (next p o s)
   reti-law o s h =
