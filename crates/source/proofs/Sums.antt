@@ -1,4 +1,4 @@
--- The Rust's flags, read off bits, are the port's, read off sizes, where the laws of `bits` do not say so: clear bits of a word, and a sum or a difference made in two steps.
+-- The Rust's flags are the port's, where the laws of `bits` stop: clear bits of a word, half carry without C, and a sum or a difference in two steps.
 -- Assumes nothing.
 use mathlib.Core.Path.{_≡_, refl, sym, ap, _∙_}
 use mathlib.Core.Bool.{Bool, true, false, not, _&&_, _||_, or-false, and-comm}
