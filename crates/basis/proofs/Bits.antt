@@ -1,12 +1,12 @@
 -- Bits of a byte: by a mask, by division and remainder, and what stays below 256.
 -- Assumes nothing.
-use mathlib.Core.Path.{_≡_, refl, _∙_, ap, sym}
+use mathlib.Core.Path.{_≡_}
 use mathlib.Core.Bool.{Bool, true, false}
-use Prim.Native.Nat.{ℕ, _+_, _-_, _*_, _/_, _%_, _^_, _≤_, _<_}
+use Prim.Native.Nat.{ℕ, _-_, _*_, _%_, _^_, _≤_, _<_}
 use native.Mathlib.Omega.{arith}
-use lib.Dec.{T, eqb, ltb, ltb→lt}
+use lib.Dec.{T, ltb, ltb→lt}
 use lib.Bits.{bitOr, bitAnd}
-use Rattle.basis.specs.Bit.{one, bit, put}
+use Rattle.basis.specs.Bit.{one, put}
 use Rattle.basis.proofs.Every.{every, at, agreed}
 
 pub one-le : (t : Bool) → one t ≤ 1

@@ -1,7 +1,7 @@
 -- 01, 'Arithmetic and flags', in the order of cores.rs. d and r are register numbers, K and b are bytes.
 -- "Z is result zero, N its top bit, S is N xor V."
 use mathlib.Core.Bool.{Bool, true, false, not, _&&_, _||_}
-use Prim.Native.Nat.{ℕ, _+_, _*_, _/_, _%_, _-_}
+use Prim.Native.Nat.{ℕ, _+_, _%_, _-_}
 use lib.Dec.{eqb, ltb}
 use lib.Bits.{bitAnd, bitOr, bitXor}
 use Rattle.basis.specs.Bit.{bit}

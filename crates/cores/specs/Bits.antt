@@ -1,5 +1,5 @@
 -- 01, 'Arithmetic and flags' and the bit instructions, in the order of cores.rs. CBI and SBI are `memory`'s `bitSetOf`.
-use mathlib.Core.Bool.{Bool, true, false, not, Bool·beq}
+use mathlib.Core.Bool.{Bool, false, not, Bool·beq}
 use Prim.Native.Nat.{ℕ, _+_, _*_, _/_, _%_}
 use lib.Dec.{eqb}
 use Rattle.basis.specs.Bit.{bit, put}

@@ -10,7 +10,7 @@ use Rattle.basis.specs.Bit.{one, bit, up, down}
 use Rattle.alu.specs.Alu.{signedOf, minusOf}
 use Rattle.instruction.specs.Fields.{twoWords}
 use Rattle.instruction.specs.declared.Instruction.{Instruction}
-use Rattle.memory.specs.Memory.{hasOf, wordOf, programWordOf}
+use Rattle.memory.specs.Memory.{hasOf, programWordOf}
 use Rattle.cores.specs.declared.Core.{Core}
 use Rattle.cores.specs.State.{Out, out, reg, word, withSreg, withPc, withSp, withBusy, withInhibit, withService, flag}
 use Rattle.cores.specs.Arithmetic.{sumFlags, isZero}

@@ -1,9 +1,9 @@
 -- 01, 'The core and its surroundings': "A core is 32 registers, SREG, PC (in words), SP, a busy count, the inhibit flag and the in-service flag."
 -- A core's record is written out in this file alone.
 use mathlib.Core.Path.{_≡_}
-use mathlib.Core.Bool.{Bool, true, false, not, Bool·beq}
+use mathlib.Core.Bool.{Bool, false, not, Bool·beq}
 use mathlib.Core.List.{List}
-use Prim.Native.Nat.{ℕ, _+_, _*_, _/_, _%_, _<_, _≤_}
+use Prim.Native.Nat.{ℕ, _+_, _/_, _%_, _<_, _≤_}
 use lib.Dec.{ltb}
 use lib.ListN.{getD, set, length, replicate}
 use Rattle.basis.specs.Pick.{pick}

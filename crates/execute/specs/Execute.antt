@@ -1,6 +1,6 @@
 -- What each instruction does, of a core whose PC is behind its first word: the handler that 01 gives it, and the answer.
 use mathlib.Core.Path.{_≡_}
-use mathlib.Core.Bool.{Bool, true, false}
+use mathlib.Core.Bool.{true, false}
 use mathlib.Core.List.{List}
 use Prim.Native.Nat.{ℕ}
 use Rattle.instruction.specs.declared.Instruction.{Instruction}

@@ -1,7 +1,7 @@
 -- The two kinds of table, as a `match` on a number leaves them: past every key, or within a range.
 -- Assumes nothing.
 use Prim.Native.Nat.{ℕ, zero, suc, _<_, _≤_}
-use mathlib.Core.List.{List, [], _∷_}
+use mathlib.Core.List.{[], _∷_}
 use mathlib.Core.Path.{_≡_, refl}
 use borrow.Author.Tests.{ne-eqb, lt-ltb, le-ltb}
 use Rattle.instruction.specs.Decode.{Cases, look, under}

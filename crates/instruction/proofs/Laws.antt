@@ -1,14 +1,14 @@
 -- The laws of specs/Fields.antt.
 -- Assumes nothing.
 use mathlib.Core.Bool.{Bool, true, false}
-use mathlib.Core.List.{List, [], _∷_}
+use mathlib.Core.List.{[], _∷_}
 use mathlib.Core.Path.{_≡_, refl, sym, _∙_}
 use Prim.Native.Nat.{ℕ, _+_, _*_, _/_, _%_, _<_}
 use native.Mathlib.Nat.{add-zero}
 use native.Mathlib.Omega.{arith}
 use lib.Dec.{eqb, ltb}
 use Rattle.basis.specs.Pick.{pick}
-use Rattle.instruction.specs.Decode.{Cases, look, under, decodeOf, ranges, nopToAddOf, nopToAdd, mulsuToFmulsuOf, mulsuToFmulsu, cpseToAdcOf, cpseToAdc, andToMovOf, andToMov, immediateOf, immediate, displacedOf, displaced, loadOf, load, storeOf, store, oneRegisterOf, oneRegister, controlOf, control, controlRest, indirectOf, indirect, wordImmediateOf, wordImmediate, portBitOf, portBit, mulOf, portOf, port, relativeOf, relative, branchOrBitOf, branchOrBit, registerBitOf, registerBit}
+use Rattle.instruction.specs.Decode.{Cases, look, under, decodeOf, ranges, nopToAddOf, nopToAdd, mulsuToFmulsuOf, mulsuToFmulsu, cpseToAdcOf, cpseToAdc, andToMovOf, andToMov, immediateOf, immediate, displacedOf, displaced, loadOf, load, storeOf, store, oneRegisterOf, oneRegister, controlOf, control, controlRest, indirectOf, indirect, wordImmediateOf, wordImmediate, portBitOf, portBit, portOf, port, relativeOf, relative, branchOrBitOf, branchOrBit, registerBitOf, registerBit}
 use Rattle.instruction.specs.Fields.{InFields, FieldsInRange, withSecond, SecondWordAlone}
 use Rattle.instruction.specs.declared.Instruction.{Instruction}
 

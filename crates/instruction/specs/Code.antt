@@ -1,5 +1,5 @@
 -- Which instruction it is, whatever its fields; and 01's list of those that touch registers alone.
-use mathlib.Core.Bool.{Bool, true, false, _||_}
+use mathlib.Core.Bool.{Bool, false, _||_}
 use mathlib.Core.List.{List, [], _∷_}
 use Prim.Native.Nat.{ℕ}
 use lib.Dec.{eqb}

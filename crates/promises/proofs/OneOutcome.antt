@@ -1,7 +1,6 @@
 -- One law, `equation`, at each field of a contract.
 -- Assumes nothing.
 use mathlib.Core.Path.{_≡_, sym, _∙_}
-use mathlib.Core.List.{List}
 use Prim.Native.Nat.{ℕ}
 use Rattle.cores.specs.declared.Core.{Core}
 use Rattle.execute.specs.declared.Done.{Done}
@@ -9,7 +8,7 @@ use Rattle.execute.specs.declared.Outcome.{Outcome}
 use Rattle.tick.specs.declared.Answer.{Answer}
 use Rattle.tick.specs.declared.Ticked.{Ticked}
 use Rattle.run.specs.declared.Ran.{Ran}
-use Rattle.promises.specs.OneOutcome.{One, OneOutcome}
+use Rattle.promises.specs.OneOutcome.{OneOutcome}
 
 equation : {A : Type 0} {d x y : A} → x ≡ d → y ≡ d → x ≡ y
 equation e f = e ∙ sym f

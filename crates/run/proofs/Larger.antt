@@ -2,12 +2,9 @@
 -- Assumes nothing.
 use mathlib.Core.Path.{_≡_, refl, ap}
 use mathlib.Core.Bool.{Bool, true, false}
-use mathlib.Core.List.{List}
-use Prim.Native.Nat.{ℕ, zero, suc, _≤_}
+use Prim.Native.Nat.{zero, suc}
 use native.Mathlib.Nat.{not-suc-le-zero, le-of-suc-le-suc}
-use Rattle.cores.specs.declared.Core.{Core}
 use Rattle.tick.specs.Tick.{Tick, refuses, stops, tickOf}
-use Rattle.tick.specs.declared.Offer.{Offer}
 use Rattle.run.specs.Run.{Run, after, runOf, SameUnderLargerBudget}
 use Rattle.run.proofs.Unroll.{step}
 

@@ -1,6 +1,6 @@
 -- One tick of a run that has done n of its b ticks.
 -- Assumes nothing.
-use mathlib.Core.Path.{_≡_, refl, ap}
+use mathlib.Core.Path.{_≡_, refl}
 use mathlib.Core.Bool.{Bool, true, false}
 use mathlib.Core.List.{List}
 use Prim.Native.Nat.{ℕ, suc, _+_, _-_, _<_, _≤_}
@@ -9,7 +9,7 @@ use native.Mathlib.Omega.{arith}
 use Rattle.cores.specs.declared.Core.{Core}
 use Rattle.tick.specs.Tick.{Tick, refuses, stops, tickOf}
 use Rattle.tick.specs.declared.Offer.{Offer}
-use Rattle.run.specs.Run.{Run, spent, ended, after, runOf}
+use Rattle.run.specs.Run.{Run, ended, after, runOf}
 
 -- what a tick makes of the rest of its run
 abbrev pub step : Bool → Bool → Tick → Run → Run

@@ -1,6 +1,6 @@
 -- A buffer filled element by element from its start.
 -- Assumes nothing.
-use mathlib.Core.Path.{_≡_, refl, sym, ap, _∙_}
+use mathlib.Core.Path.{_≡_, refl, ap, _∙_}
 use mathlib.Core.List.{List, [], _∷_, _++_, append-nil}
 use native.Mathlib.Nat.{not-suc-le-zero, le-of-suc-le-suc}
 use Prim.Native.Nat.{ℕ, zero, suc, _+_, _<_, _≤_}

@@ -1,17 +1,16 @@
 -- Reading undoes writing and the reverse.
 -- Assumes nothing.
-use mathlib.Core.Path.{_≡_, refl, sym, ap, _∙_}
+use mathlib.Core.Path.{_≡_, refl}
 use mathlib.Core.Bool.{Bool, true, false}
 use mathlib.Core.List.{List, [], _∷_, _++_}
-use Prim.Native.Nat.{ℕ, zero, suc, _+_, _*_, _/_, _%_, _<_, _≤_}
+use Prim.Native.Nat.{ℕ, zero, suc, _+_, _*_, _/_, _%_, _<_}
 use native.Mathlib.Omega.{arith}
 use lib.Dec.{eqb, ltb}
-use lib.ListN.{getD, take, drop, length, length-append, take-append-drop, drop-of-length-le}
+use lib.ListN.{getD, drop, length, length-append, take-append-drop, drop-of-length-le}
 use lib.Seq.{take-at, drop-cons, getD-append-add}
 use borrow.Author.Tests.{le-ltb, eq-eqb, eqb-true}
 use Rattle.basis.specs.Bit.{one}
-use Rattle.cores.specs.declared.Core.{Core}
-use Rattle.cores.specs.State.{Sound, Bytes}
+use Rattle.cores.specs.State.{Bytes}
 use Rattle.snapshot.specs.Snapshot.{bytesOf, coreOf, readOf, ReadingUndoesWriting, WritingUndoesReading}
 
 -- ---- the last byte

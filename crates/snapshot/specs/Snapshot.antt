@@ -1,6 +1,5 @@
 -- 01: "Snapshot, most significant bit first: R0 to R31, SREG, PC, SP, busy 3 bits, inhibit 1, in-service 1, three zero bits: 38 bytes."
 use mathlib.Core.Path.{_≡_}
-use mathlib.Core.Bool.{Bool}
 use mathlib.Core.List.{List, [], _∷_, _++_}
 use Prim.Native.Nat.{ℕ, _+_, _*_, _/_, _%_}
 use lib.Dec.{eqb, ltb}

@@ -1,5 +1,5 @@
 -- 01, 'One tick, in this order': the step that a tick of core k with program p, data m and offer o reaches, and what it lacks there.
-use mathlib.Core.Bool.{Bool, true, false, not, _&&_, _||_, Bool·beq}
+use mathlib.Core.Bool.{Bool, true, false, not, _&&_, Bool·beq}
 use mathlib.Core.List.{List, [], _∷_}
 use Prim.Native.Nat.{ℕ, _+_, _-_}
 use lib.Dec.{eqb, ltb}
@@ -9,7 +9,7 @@ use Rattle.instruction.specs.Code.{code, oneOf}
 use Rattle.instruction.specs.Decode.{decodeOf}
 use Rattle.instruction.specs.declared.Instruction.{Instruction}
 use Rattle.instruction.specs.declared.Instruction.the-variants.{CALL, CBI, CPSE, ICALL, IN, JMP, LDX, LDXinc, LDXdec, LDYinc, LDYdec, LDZinc, LDZdec, LDDY, LDDZ, LDS, LPM, LPMZ, LPMZinc, OUT, POP, PUSH, RCALL, RET, RETI, SBI, SBIC, SBIS, SBRC, SBRS, STX, STXdec, STXinc, STYdec, STYinc, STZdec, STZinc, STDY, STDZ, STS}
-use Rattle.memory.specs.Memory.{hasOf, programWordOf, hasWordOf}
+use Rattle.memory.specs.Memory.{hasOf, programWordOf}
 use Rattle.cores.specs.declared.Core.{Core}
 use Rattle.cores.specs.State.{reg, word, flag}
 use Rattle.cores.specs.Flow.{dataBitIs}

@@ -1,7 +1,7 @@
 -- 01's table: the numbers that a tick can answer, each with its condition on core k, program p, data m and offer o.
 use mathlib.Core.Path.{_≡_}
 use mathlib.Core.Logic.{_↔_}
-use mathlib.Core.Bool.{Bool, true, false, not, _&&_, _||_}
+use mathlib.Core.Bool.{Bool, true, not, _&&_, _||_}
 use mathlib.Core.List.{List, [], _∷_}
 use Prim.Native.Nat.{ℕ, _+_, _<_}
 use lib.Dec.{eqb, ltb}
@@ -13,7 +13,6 @@ use Rattle.memory.specs.Memory.{hasOf, hasWordOf}
 use Rattle.cores.specs.declared.Core.{Core}
 use Rattle.cores.specs.State.{word}
 use Rattle.tick.specs.declared.Offer.{Offer}
-use Rattle.tick.specs.declared.Answer.the-variants.{Refused}
 use Rattle.tick.specs.Tick.{numberOf, tickOf}
 use Rattle.table.specs.Steps.{tooBusy, waits, enters, ends, steps, opAt, usesSecond, readsProgram, skips, pushed, dataNeeded, hasAll}
 

@@ -1,6 +1,6 @@
 -- `avr_run`: the checks in their order, then the run, then its core written.
 -- Assumes nothing.
-use mathlib.Core.Path.{_≡_, refl}
+use mathlib.Core.Path.{refl}
 use borrow.Author.Needs.{needs}
 use borrow.Author.Tests.{lt-ltb, le-ltb, eq-eqb, ne-eqb}
 use Rattle.host.specs.Host.{avrRunOf}

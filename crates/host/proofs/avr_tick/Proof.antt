@@ -1,6 +1,6 @@
 -- `avr_tick`: the checks in their order, then the tick, then its core written.
 -- Assumes nothing.
-use mathlib.Core.Path.{_≡_, refl, ap, _∙_}
+use mathlib.Core.Path.{refl, ap, _∙_}
 use borrow.Author.Needs.{needs}
 use borrow.Author.Tests.{lt-ltb, le-ltb, eq-eqb, ne-eqb}
 use Rattle.tick.specs.Tick.{numberOf}

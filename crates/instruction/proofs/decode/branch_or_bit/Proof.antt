@@ -1,6 +1,6 @@
 -- `branch_or_bit` is `branchOrBitOf`: two keys, and the range that is left.
 -- Assumes nothing.
-use Prim.Native.Nat.{_+_, _*_, _/_, _%_}
+use Prim.Native.Nat.{_/_, _%_}
 use mathlib.Core.Path.{_∙_}
 use native.Mathlib.Omega.{arith}
 use borrow.Author.Needs.{needs}

@@ -1,6 +1,6 @@
 -- `indirect` is `indirectOf`: each key picks its case, and past all keys the table has none.
 -- Assumes nothing.
-use Prim.Native.Nat.{_+_, _*_, _/_, _%_}
+use Prim.Native.Nat.{_/_, _%_}
 use Rattle.instruction.specs.Decode.{indirectOf, indirect}
 use Rattle.instruction.proofs.Cases.{missed}
 use Rattle.instruction.proofs.decode.indirect.Statement.{statement}

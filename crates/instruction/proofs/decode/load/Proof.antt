@@ -1,6 +1,6 @@
 -- `load` is `loadOf`: each key picks its case, and past all keys the table has none.
 -- Assumes nothing.
-use Prim.Native.Nat.{_+_, _*_, _/_, _%_}
+use Prim.Native.Nat.{_%_}
 use borrow.Author.Needs.{needs}
 use Rattle.instruction.specs.Decode.{loadOf, load}
 use Rattle.instruction.proofs.Cases.{missed}
