@@ -3,7 +3,7 @@ function fault(text) { print FILENAME ": " name ": " text > "/dev/stderr" }
 
 # what a contract says, in short: x for a buffer's bytes before, x' for them after
 function plain(text) {
-    gsub(/[«»]/, "", text)
+    gsub(/«/, "", text); gsub(/»/, "", text)
     text = shortened(text, "\\(?now \\([a-z_]+ \\.entry\\)", "")
     return shortened(text, "\\(?now \\([a-z_]+ \\.exit\\)", "′")
 }
@@ -20,13 +20,21 @@ function shortened(text, pattern, mark,    word, rest) {
     return text
 }
 
-# the law of crates/promises/specs/OneOutcome.antt; empty where a clause only adds a bound
-function law(text) {
-    if (text ~ /^[a-z_]+(′)? ≡ /) return "equation"
+# the law of crates/promises/specs/OneOutcome.antt by which a clause pins what it speaks of; bound is the name of the result in it. A clause that pins nothing has none
+function law(text, bound,    left) {
+    if (match(text, / ≡ /)) {
+        left = substr(text, 1, RSTART - 1)
+        if (left ~ /^[a-z_]+(′)?$/ && (left == bound || left ~ /′$/) && !mentions(substr(text, RSTART + RLENGTH), left)) return "equation"
+    }
     if (text ~ /^Ticks .*inPlace/) return "ticks-in-place"
     if (text ~ /^TellsTicks /) return "tells-ticks"
     if (text ~ /^(Leaves|Executes|Ticks|Runs|Writes|Tells|Prints) /) { sub(/ .*/, "", text); return tolower(text) }
     return ""
+}
+
+function mentions(text, name) {
+    gsub(/[()]/, " ", text)
+    return index(" " text " ", " " name " ") > 0
 }
 
 function finish(    found, mutable) {
@@ -55,19 +63,25 @@ function exported(    module, lib, line, found) {
     return found
 }
 
-/^impl / { type = $2 }
+/^impl/ { type = $0; sub(/^impl(<[^>]*>)? */, "", type); sub(/[ <{].*/, "", type) }
 /^}/ { type = "" }
-/^ *pub (extern "C" )?fn / {
+/^ *pub ((const|extern "C") )*fn / {
+    if (inside) finish()
     head = ""; contract = ""; laws = ""; told = 0
     name = $0; sub(/.*fn /, "", name); sub(/[(<].*/, "", name)
     inside = exported()
 }
-inside && /^ *\{ *$/ { finish(); next }
 inside && /ensures/ {
     text = $0; sub(/.*⌜ /, "", text); sub(/ ⌝.*/, "", text); text = plain(text)
+    bound = $0; sub(/.*λ /, "", bound); sub(/\. .*/, "", bound)
     contract = contract (contract == "" ? "" : "; ") text
-    if (law(text) != "" && $0 !~ /λ _\./) told = 1
-    if (law(text) != "" && index(laws, law(text)) == 0) laws = laws (laws == "" ? "" : ", ") law(text)
+    rule = law(text, bound)
+    if (rule == "") next
+    if (mentions(text, bound)) told = 1
+    if (index(laws, rule) == 0) laws = laws (laws == "" ? "" : ", ") rule
     next
 }
 inside { head = head $0 }
+# the body begins
+inside && /\{ *$/ { finish() }
+END { if (inside) finish() }

@@ -4,4 +4,5 @@ fn main() {
     println!("cargo:rustc-link-search=native={folder}");
     println!("cargo:rustc-link-lib=static=host");
     println!("cargo:rerun-if-env-changed=AVR_CORE_LIB");
+    println!("cargo:rerun-if-changed={folder}/libhost.a");
 }
