@@ -17,7 +17,7 @@ use Rattle.tick.specs.declared.Offer.{Offer}
 use Rattle.tick.specs.declared.Answer.{Answer}
 use Rattle.tick.specs.declared.Answer.the-variants.{Refused, Waited, Entered, Ran, Sleep, Watchdog, Undefined, Break, End}
 use Rattle.tick.specs.Tick.{Tick, numberOf, refuses, stops, tickOf}
-use Rattle.run.specs.Run.{Run, runOf}
+use Rattle.run.specs.Run.{Run, after, runOf}
 use Rattle.run.proofs.Unroll.{step}
 use Rattle.snapshot.specs.declared.SnapshotRead.{SnapshotRead}
 use Rattle.snapshot.specs.Snapshot.{bytesOf, coreOf, writeOf, readOf}
@@ -26,7 +26,7 @@ use Rattle.host.specs.Host.{Told, told, toldTicks, offerOf, avrTickOf, avrRunOf
 use Rattle.invariants.specs.Ticks.{TickNumber}
 use Rattle.invariants.proofs.Ticks.{ticks-answer-by-the-table, refused-ticks-change-nothing}
 use Rattle.table.specs.Table.{rows, ExactlyWhen, holding}
-use Rattle.table.specs.Calls.{Given, registerRows, RegistersByTheTable, whole, writeRows, WritesByTheTable, readable, readRows, ReadsByTheTable, goesOn, RunsByTheTable, afterTicks, RunsAreTicks, onlyIf, checkRows, TickCallsByTheTable, RefusedTickCallsChangeNothing, RunCallsByTheTable}
+use Rattle.table.specs.Calls.{Given, registerRows, RegistersByTheTable, whole, writeRows, WritesByTheTable, readable, readRows, ReadsByTheTable, goesOn, RunsByTheTable, afterTicks, Spent, RefusedNext, StoppedLast, RunsAreTicks, onlyIf, checkRows, TickCallsByTheTable, RefusedTickCallsChangeNothing, RunCallsByTheTable}
 use Rattle.table.proofs.Table.{fits, Fits, exactly, fits-the-table}
 
 shown : (a : ℕ) (l : List (ℕ × Bool)) → Fits a l → Given a l
@@ -105,25 +105,63 @@ below-16 Undefined h = absurd (omega arith)
 below-16 Break h = absurd (omega arith)
 below-16 End h = absurd (omega arith)
 
--- a tick, and the rest of a run that is ticks one after another
+-- a first tick, and the rest of a run that is ticks one after another
 module _ (k : Core) (p m : List ℕ) (o : Offer) where
   abbrev first : Tick
   first = tickOf k p m o
 
-  followed : (r s : Bool) (x : Run) (b : ℕ) → (r ≡ true → (first .core ≡ k) × (first .bytes ≡ m))
-      → ((x .core, x .bytes) ≡ afterTicks (x .count) (first .core) p (first .bytes) o) × (x .count ≤ b)
-      → ((step r s first x .core, step r s first x .bytes) ≡ afterTicks (step r s first x .count) k p m o) × (step r s first x .count ≤ suc b)
-  followed true s x b h i = let (g, d) = h refl in (cc (g, d), omega arith)
-  followed false true x b h i = (refl, omega arith)
-  followed false false x b h (i, l) = let z : 1 + x .count ≡ suc (x .count) = omega arith in (rw z i, omega arith)
+  stands : (r s : Bool) (x : Run) → (r ≡ true → (first .core ≡ k) × (first .bytes ≡ m))
+      → (x .core, x .bytes) ≡ afterTicks (x .count) (first .core) p (first .bytes) o
+      → (step r s first x .core, step r s first x .bytes) ≡ afterTicks (step r s first x .count) k p m o
+  stands true s x h i = let (g, d) = h refl in cc (g, d)
+  stands false true x h i = refl
+  stands false false x h i = let z : 1 + x .count ≡ suc (x .count) = omega arith in rw z i
+
+  abbrev Ended : ℕ → Run → Type 0
+  Ended b r = Spent b k p m o r ⊎ (RefusedNext b k p m o r ⊎ StoppedLast b k p m o r)
+
+  abbrev EndedNext : ℕ → Run → Type 0
+  EndedNext b x =
+      Spent b (first .core) p (first .bytes) o x ⊎ (RefusedNext b (first .core) p (first .bytes) o x ⊎ StoppedLast b (first .core) p (first .bytes) o x)
+
+  module _ (x : Run) (b : ℕ) (e : refuses (first .answer) ≡ false) (f : stops (first .answer) ≡ false) where
+    one-more : 1 + x .count ≡ suc (x .count)
+    one-more = omega arith
+
+    later : EndedNext b x → Ended (suc b) (after 1 x)
+    later (inl s) = inl (record { answer = s .answer; count = omega (arith, s .count); before = rw (e, f) (s .before) })
+    later (inr (inl s)) =
+        inr (inl (record {
+          in-budget = omega (arith, s .in-budget);
+          before = rw (one-more, e, f) (s .before);
+          refused = rw one-more (s .refused);
+          answer = rw one-more (s .answer);
+        }))
+    later (inr (inr s)) =
+        inr (inr (record {
+          others = suc (s .others);
+          count = omega (arith, s .count);
+          in-budget = omega (arith, s .in-budget);
+          before = rw (e, f) (s .before);
+          stopped = s .stopped;
+          answer = s .answer;
+        }))
+
+  ended-by : (r s : Bool) (x : Run) (b : ℕ) → refuses (first .answer) ≡ r → stops (first .answer) ≡ s → EndedNext b x → Ended (suc b) (step r s first x)
+  ended-by true s x b e f i = inr (inl (record { in-budget = omega arith; before = refl; refused = e; answer = refl }))
+  ended-by false true x b e f i = inr (inr (record { others = 0; count = refl; in-budget = omega arith; before = refl; stopped = f; answer = refl }))
+  ended-by false false x b e f i = later x b e f i
 
 pub runs-are-ticks : RunsAreTicks
 unfolding runOf
-runs-are-ticks zero k p m o = (refl, omega arith)
+runs-are-ticks zero k p m o = (refl, inl (record { answer = refl; count = refl; before = refl }))
 runs-are-ticks (suc b) k p m o =
     let t = tickOf k p m o in
-    followed k p m o (refuses (t .answer)) (stops (t .answer)) (runOf b (t .core) p (t .bytes) o) b
-    (λ r. let (n, e) = refused-by (t .answer) r in refused-ticks-change-nothing k p m o n e) (runs-are-ticks b (t .core) p (t .bytes) o)
+    let x = runOf b (t .core) p (t .bytes) o in
+    let (s, e) = runs-are-ticks b (t .core) p (t .bytes) o in (
+      stands k p m o (refuses (t .answer)) (stops (t .answer)) x (λ r. let (n, a) = refused-by (t .answer) r in refused-ticks-change-nothing k p m o n a) s,
+      ended-by k p m o (refuses (t .answer)) (stops (t .answer)) x b refl refl e,
+    )
 
 -- ---- the C interface
 always : (l : List (ℕ × Bool)) → onlyIf true l ≡ l

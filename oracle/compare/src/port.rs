@@ -33,8 +33,11 @@ fn command() -> Result<Command, String> {
     Ok(command)
 }
 
-/// The folder of the Rattle kit: that above the one in which `rt` stands.
+/// The folder of the Rattle kit: RATTLE_HOME, or that above the one in which `rt` stands.
 fn kit() -> Result<PathBuf, String> {
+    if let Some(home) = env::var_os("RATTLE_HOME") {
+        return Ok(home.into());
+    }
     let paths = env::var_os("PATH").unwrap_or_default();
     let rt = env::split_paths(&paths).map(|folder| folder.join("rt")).find(|path| path.is_file()).ok_or("no rt on PATH")?;
     let rt = rt.canonicalize().map_err(|error| error.to_string())?;
