@@ -45,6 +45,7 @@ fn main() {
     let mut head = [0u8; 50];
     let mut program = [0u8; 131072];
     let mut data = [0u8; 66000];
+    // counted only so that the loop is shown to end
     let mut turns = u64::MAX;
     while turns > 0 && answer(&mut head, &mut program, &mut data) {
         turns -= 1;

@@ -24,7 +24,7 @@ use Rattle.tick.specs.declared.Answer.{Answer}
 use Rattle.tick.specs.declared.Answer.the-variants.{Refused, Waited, Entered, End}
 use Rattle.tick.proofs.Steps.{every-due, onward, opAt, performed, every-tick, done-refuses-not}
 use Rattle.invariants.specs.Instructions.{ByteOperand, InRange}
-use Rattle.invariants.specs.Ticks.{Offered, TickNumber, TicksStayInRange, RefusedTicksChangeNothing, TicksAnswerByTheTable, Brief, TicksLeaveBusyAtMost4}
+use Rattle.invariants.specs.Ticks.{Offered, TickNumber, TicksStayInRange, RefusedTicksChangeNothing, TicksAnswerTickNumbers, Brief, TicksLeaveBusyAtMost4}
 use Rattle.invariants.proofs.Fits.{fits-of, sound-of, fits-pc, fits-busy, fits-inhibit, fits-service}
 use Rattle.invariants.proofs.Handlers.{word-pushed-leaves}
 use Rattle.invariants.proofs.Waits.{instructions-wait-at-most-3}
@@ -104,8 +104,8 @@ done-number done.Watchdog = omega arith
 done-number done.Undefined = omega arith
 done-number done.Break = omega arith
 
-pub ticks-answer-by-the-table : TicksAnswerByTheTable
-ticks-answer-by-the-table k p m o =
+pub ticks-answer-tick-numbers : TicksAnswerTickNumbers
+ticks-answer-tick-numbers k p m o =
     every-tick decodeOf (λ t. TickNumber (numberOf (t .answer))) k p m o
     (λ n g l. inl (omega arith))
     (λ g l. inr (omega arith))

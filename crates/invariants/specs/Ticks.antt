@@ -31,8 +31,8 @@ RefusedTicksChangeNothing =
     (k : Core) (p m : List ℕ) (o : Offer) (n : ℕ) → tickOf k p m o .answer ≡ Refused n → (tickOf k p m o .core ≡ k) × (tickOf k p m o .bytes ≡ m)
 
 -- of any core whatever
-abbrev pub TicksAnswerByTheTable : Type 0
-TicksAnswerByTheTable = (k : Core) (p m : List ℕ) (o : Offer) → TickNumber (numberOf (tickOf k p m o .answer))
+abbrev pub TicksAnswerTickNumbers : Type 0
+TicksAnswerTickNumbers = (k : Core) (p m : List ℕ) (o : Offer) → TickNumber (numberOf (tickOf k p m o .answer))
 
 -- a tick from core k that is not refused leaves a busy of at most 4, whatever k's was; and so does any tick from a busy of at most 4
 abbrev pub Brief : Core → Tick → Type 0

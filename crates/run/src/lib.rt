@@ -50,25 +50,25 @@ pub fn stops(answer: Answer) -> bool
 pub fn run(core: Core, program: &[u8], data: &mut [u8], offer: Offer, budget: u32) -> Ran
     ensures { λ r. ⌜ Runs (runOf budget core (now (program .entry)) (now («data» .entry)) offer) r (now («data» .exit)) ⌝ }
 {
-    let mut now = core;
+    let mut last = core;
     let mut ticks: u32 = 0;
     while ticks < budget {
-        let ticked = tick::tick(now, program, data, offer);
+        let ticked = tick::tick(last, program, data, offer);
         let answer = ticked.answer;
         let done = ticks + 1;
-        now = ticked.core;
+        last = ticked.core;
         if refuses(answer) {
-            return ended(answer, ticks, now);
+            return ended(answer, ticks, last);
         }
         if stops(answer) {
-            return ended(answer, done, now);
+            return ended(answer, done, last);
         }
         ticks = done;
     }
     Ran {
         answer: BUDGET,
         ticks,
-        core: now,
+        core: last,
     }
 }
 

@@ -1,17 +1,18 @@
 -- Reading undoes writing and the reverse.
 -- Assumes nothing.
-use mathlib.Core.Path.{_≡_, refl}
+use mathlib.Core.Path.{_≡_, refl, ap, _∙_}
 use mathlib.Core.Bool.{Bool, true, false}
 use mathlib.Core.List.{List, [], _∷_, _++_}
-use Prim.Native.Nat.{ℕ, zero, suc, _+_, _*_, _/_, _%_, _<_}
+use Prim.Native.Nat.{ℕ, zero, suc, _+_, _*_, _/_, _%_, _<_, _≤_}
 use native.Mathlib.Omega.{arith}
 use lib.Dec.{eqb, ltb}
 use lib.ListN.{getD, drop, length, length-append, take-append-drop, drop-of-length-le}
 use lib.Seq.{take-at, drop-cons, getD-append-add}
-use borrow.Author.Tests.{le-ltb, eq-eqb, eqb-true}
+use borrow.Author.Tests.{ltb-false, le-ltb, eq-eqb, eqb-true}
 use Rattle.basis.specs.Bit.{one}
-use Rattle.cores.specs.State.{Bytes}
-use Rattle.snapshot.specs.Snapshot.{bytesOf, coreOf, readOf, ReadingUndoesWriting, WritingUndoesReading}
+use Rattle.cores.specs.declared.Core.{Core}
+use Rattle.cores.specs.State.{Sound, Bytes}
+use Rattle.snapshot.specs.Snapshot.{bytesOf, coreOf, wrote, writeOf, readOf, ReadingUndoesWriting, WritingUndoesReading}
 
 -- ---- the last byte
 abbrev last : ℕ → Bool → Bool → ℕ
@@ -54,8 +55,8 @@ at-tail r t h i = rw (← h) (getD-append-add r t i 0)
 joined : (x : ℕ) → x / 256 * 256 + x % 256 ≡ x
 joined x = omega arith
 
-pub reading-undoes-writing : ReadingUndoesWriting
-reading-undoes-writing k s =
+read-back : (k : Core) → Sound k → readOf (bytesOf k) ≡ record { refusal = 0; core = k }
+read-back k s =
     let h = s .count in
     let t = k .sreg ∷ k .pc / 256 ∷ k .pc % 256 ∷ k .sp / 256 ∷ k .sp % 256 ∷ last (k .busy) (k .inhibit) (k .«in_service») ∷ [] in
     let long : length (bytesOf k) ≡ 38 = rw length-append (omega arith) in
@@ -119,5 +120,25 @@ by-tests s b true true v e f g h = absurd (omega (arith, rw (e, f) at h))
 by-tests s b true false false e f g h = absurd (omega (arith, rw (e, f, g) at h))
 by-tests s b true false true e f g h = rw (e, f, g) (whole-back s b (eqb-true (length s) 38 e) (eqb-true (getD s 37 0 % 8) 0 g))
 
+pub bytes-back : (s : List ℕ) → Bytes s → readOf s .refusal ≡ 0 → bytesOf (readOf s .core) ≡ s
+bytes-back s b h = by-tests s b (eqb (length s) 38) (ltb 4 (getD s 37 0 / 32)) (eqb (getD s 37 0 % 8) 0) refl refl refl h
+
+-- ---- into a buffer of 38 bytes
+written : (k : Core) (out : List ℕ) → k .busy ≤ 4 → length out ≡ 38 → writeOf k out ≡ wrote 0 (bytesOf k)
+written k out b h = rw (eq-eqb (length out) 38 h, le-ltb 4 (k .busy) b)
+
+pub reading-undoes-writing : ReadingUndoesWriting
+reading-undoes-writing k out s h = rw (written k out (s .busy-le) h) (read-back k s)
+
+-- a core that was read is not too busy
+read-busy : (s : List ℕ) (t u v : Bool) → eqb (length s) 38 ≡ t → ltb 4 (getD s 37 0 / 32) ≡ u → eqb (getD s 37 0 % 8) 0 ≡ v
+    → readOf s .refusal ≡ 0 → readOf s .core .busy ≤ 4
+read-busy s false u v e f g h = absurd (omega (arith, rw e at h))
+read-busy s true true v e f g h = absurd (omega (arith, rw (e, f) at h))
+read-busy s true false false e f g h = absurd (omega (arith, rw (e, f, g) at h))
+read-busy s true false true e f g h = rw (e, f, g) (ltb-false 4 (getD s 37 0 / 32) f)
+
 pub writing-undoes-reading : WritingUndoesReading
-writing-undoes-reading s b h = by-tests s b (eqb (length s) 38) (ltb 4 (getD s 37 0 / 32)) (eqb (getD s 37 0 % 8) 0) refl refl refl h
+writing-undoes-reading s out b h l =
+    let low = read-busy s (eqb (length s) 38) (ltb 4 (getD s 37 0 / 32)) (eqb (getD s 37 0 % 8) 0) refl refl refl h in
+    written (readOf s .core) out low l ∙ ap (wrote 0) (bytes-back s b h)

@@ -57,7 +57,7 @@ readOf s =
 
 -- ---- the theorems, proved in proofs/RoundTrips.antt: "Reading undoes writing and the reverse."
 abbrev pub ReadingUndoesWriting : Type 0
-ReadingUndoesWriting = (k : Core) → Sound k → readOf (bytesOf k) ≡ record { refusal = 0; core = k }
+ReadingUndoesWriting = (k : Core) (out : List ℕ) → Sound k → length out ≡ 38 → readOf (writeOf k out .bytes) ≡ record { refusal = 0; core = k }
 
 abbrev pub WritingUndoesReading : Type 0
-WritingUndoesReading = (s : List ℕ) → Bytes s → readOf s .refusal ≡ 0 → bytesOf (readOf s .core) ≡ s
+WritingUndoesReading = (s out : List ℕ) → Bytes s → readOf s .refusal ≡ 0 → length out ≡ 38 → writeOf (readOf s .core) out ≡ wrote 0 s

@@ -21,10 +21,10 @@ use Rattle.run.specs.Run.{Run, after, runOf}
 use Rattle.run.proofs.Unroll.{step}
 use Rattle.snapshot.specs.declared.SnapshotRead.{SnapshotRead}
 use Rattle.snapshot.specs.Snapshot.{bytesOf, coreOf, writeOf, readOf}
-use Rattle.snapshot.proofs.RoundTrips.{writing-undoes-reading}
+use Rattle.snapshot.proofs.RoundTrips.{bytes-back}
 use Rattle.host.specs.Host.{Told, told, toldTicks, offerOf, avrTickOf, avrRunOf}
 use Rattle.invariants.specs.Ticks.{TickNumber}
-use Rattle.invariants.proofs.Ticks.{ticks-answer-by-the-table, refused-ticks-change-nothing}
+use Rattle.invariants.proofs.Ticks.{ticks-answer-tick-numbers, refused-ticks-change-nothing}
 use Rattle.table.specs.Table.{rows, ExactlyWhen, holding}
 use Rattle.table.specs.Calls.{Given, registerRows, RegistersByTheTable, whole, writeRows, WritesByTheTable, readable, readRows, ReadsByTheTable, goesOn, RunsByTheTable, afterTicks, Spent, RefusedNext, StoppedLast, RunsAreTicks, onlyIf, checkRows, TickCallsByTheTable, RefusedTickCallsChangeNothing, RunCallsByTheTable}
 use Rattle.table.proofs.Table.{fits, Fits, exactly, fits-the-table}
@@ -71,7 +71,7 @@ counted false true t x g b n h = ((λ e. absurd (n e), λ e. clash (sym e)), λ 
 counted false false t x g b n (h, c) = (h, λ e. omega (arith, c e))
 
 below-24 : (k : Core) (p m : List ℕ) (o : Offer) → numberOf (tickOf k p m o .answer) < 24
-below-24 k p m o = elim (ticks-answer-by-the-table k p m o) [ inl h ↦ omega arith | inr h ↦ omega arith ]
+below-24 k p m o = elim (ticks-answer-tick-numbers k p m o) [ inl h ↦ omega arith | inr h ↦ omega arith ]
 
 pub runs-by-the-table : RunsByTheTable
 unfolding runOf
@@ -188,7 +188,7 @@ module _ (s : List ℕ) (h : Bytes s) (p m : List ℕ) (offer : ℕ) where
   -- none of the checks' numbers is a tick's
   above : (n : ℕ) → 5 < n → n < 16 → eqb number n ≡ false
   above n g l =
-      ne-eqb number n (λ e. elim (ticks-answer-by-the-table core p m (offerOf offer)) [ inl t ↦ omega arith | inr t ↦ omega arith ])
+      ne-eqb number n (λ e. elim (ticks-answer-tick-numbers core p m (offerOf offer)) [ inl t ↦ omega arith | inr t ↦ omega arith ])
 
   pc-lt : core .pc < 65536
   pc-lt = omega (arith, h .byte-lt 33, h .byte-lt 34)
@@ -202,7 +202,7 @@ module _ (s : List ℕ) (h : Bytes s) (p m : List ℕ) (offer : ℕ) where
   unchanged : whole s ≡ true → ltb 4 (getD s 37 0 / 32) ≡ false → eqb (getD s 37 0 % 8) 0 ≡ true → writeOf core s .bytes ≡ s
   unchanged w b z =
       let r : readOf s ≡ record { refusal = 0; core = core } = rw (w, b, z) refl in
-      let back : bytesOf (readOf s .core) ≡ s = writing-undoes-reading s h (ap (λ (x : SnapshotRead). x .refusal) r) in
+      let back : bytesOf (readOf s .core) ≡ s = bytes-back s h (ap (λ (x : SnapshotRead). x .refusal) r) in
       rw (w, b) (sym (ap (λ (x : SnapshotRead). bytesOf (x .core)) r) ∙ back)
 
   fits-tick-call : Fits (avrTickOf s p m offer .number) (checkRows s offer (rows core p m (offerOf offer)))
@@ -242,7 +242,7 @@ unfolding runOf
 run-number zero k p m o = inl refl
 run-number (suc b) k p m o =
     let t = tickOf k p m o in
-    last (refuses (t .answer)) (stops (t .answer)) t (runOf b (t .core) p (t .bytes) o) (ticks-answer-by-the-table k p m o)
+    last (refuses (t .answer)) (stops (t .answer)) t (runOf b (t .core) p (t .bytes) o) (ticks-answer-tick-numbers k p m o)
     (run-number b (t .core) p (t .bytes) o)
   where
     last : (r s : Bool) (t : Tick) (x : Run) → TickNumber (numberOf (t .answer)) → (x .answer ≡ 24) ⊎ TickNumber (x .answer)

@@ -95,7 +95,7 @@ fn enter(core: Core, vector: u16, data: &mut [u8]) -> Ticked
     }
     let mut next = core.push_word(core.pc, data);
     next.pc = vector;
-    next.busy = 4; // 2 cycles to to push PC + 3 cycles for jmp to vector
+    next.busy = 4; // 2 cycles to push PC + 3 cycles for jmp to vector
     next.in_service = true;
     Ticked {
         answer: Answer::Entered,
@@ -172,13 +172,13 @@ pub fn tick(core: Core, program: &[u8], data: &mut [u8], offer: Offer) -> Ticked
     }
 }
 
-pub fn core_of(ticked: Ticked) -> Core
+fn core_of(ticked: Ticked) -> Core
     ensures { λ k. ⌜ k ≡ ticked .core ⌝ }
 {
     ticked.core
 }
 
-pub fn answer_in(ticked: Ticked) -> Answer
+fn answer_in(ticked: Ticked) -> Answer
     ensures { λ a. ⌜ a ≡ ticked .answer ⌝ }
 {
     let answer = ticked.answer;
