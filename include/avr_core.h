@@ -1,5 +1,6 @@
 /* The C interface of crates/host, as `rt staticlib host` builds it (x86-64 Linux).
- * A slice is a pointer and a length. The numbers returned are those of document 01's table:
+ * A slice is a pointer and a length: that many bytes that may be read, and written where the pointer is not const. The slices of a call, and `ticks`,
+ * must not overlap; nothing here can check that. The numbers returned are those of document 01's table:
  * 1 to 5, 7 to 10 refused; 16 waited, 17 entered, 18 ran, 19 sleep, 20 watchdog, 21 undefined, 22 break, 23 end, 24 budget. */
 #ifndef AVR_CORE_H
 #define AVR_CORE_H

@@ -107,12 +107,12 @@ brbc k s o = pick (bar (k .sreg ! s)) (goes k (branchTarget k o) 2) (next k 1 1)
 unfoldable pub brbs : Core → ℕ → ℕ → Core
 brbs k s o = pick (k .sreg ! s) (goes k (branchTarget k o) 2) (next k 1 1)
 
--- BREAK: "on-chip debug system break". 1 word, 1 cycle. With the debug system off the CPU treats it as a NOP, and so does this page; the Rust stops
+-- BREAK: a break for the on-chip debug system. 1 word, 1 cycle. With the debug system off the CPU treats it as a NOP, and so does this page; the Rust stops
 unfoldable pub break : Switches → Core → List ℕ → Says
 break s k m = says (pick (s .outside) Break Ran) (next k 1 1) m
 
 -- BSET, bit set in SREG: SREG(s) ← 1. 1 word, 1 cycle. SEC SEZ SEN SEV SES SEH SET SEI are its aliases.
--- SEI: "the instruction following SEI will be executed before any pending interrupts", which is what inhibit is for
+-- SEI: the instruction behind it is executed before any pending interrupt, which is what inhibit is for
 unfoldable pub bset : Switches → Core → ℕ → Core
 bset s k b =
     let k₁ = withSreg (next k 1 1) (bitTo (k .sreg) b true) in
@@ -155,7 +155,7 @@ cp k d r =
     let C = bar (Rd ! 7) • Rr ! 7 ⊹ Rr ! 7 • R ! 7 ⊹ R ! 7 • bar (Rd ! 7) in
     withSreg (next k 1 1) (row (k .sreg) kept kept (is H) (is S) (is «V») (is N) (is Z) (is C))
 
--- CPC, compare with carry: Rd - Rr - C. 1 word, 1 cycle. Z: the "previous value remains unchanged when the result is zero; cleared otherwise"
+-- CPC, compare with carry: Rd - Rr - C. 1 word, 1 cycle. Z: as it was where the result is zero, else cleared
 unfoldable pub cpc : Core → ℕ → ℕ → Core
 cpc k d r =
     let Rd = reg k d in

@@ -19,7 +19,7 @@ Y = 28
 abbrev pub Z : ℕ
 Z = 30
 
--- register d is a byte of the pointer P: where P is stepped, "the result of these combinations is undefined"
+-- register d is a byte of the pointer P: where P is stepped, the result is undefined
 abbrev pub isIn : ℕ → ℕ → Bool
 isIn d P = eqb d P || eqb d (P + 1)
 

@@ -14,7 +14,7 @@ use Rattle.manual.specs.Pointers as at
 use Rattle.manual.specs.Pointers.{isIn, store, storeInc, storeDec}
 use Rattle.manual.specs.AdcToCpse.{skips}
 
--- SBC, subtract with carry: Rd ← Rd - Rr - C. 1 word, 1 cycle. Z: the "previous value remains unchanged when the result is zero; cleared otherwise"
+-- SBC, subtract with carry: Rd ← Rd - Rr - C. 1 word, 1 cycle. Z: as it was where the result is zero, else cleared
 unfoldable pub sbc : Core → ℕ → ℕ → Core
 sbc k d r =
     let Rd = reg k d in
@@ -73,7 +73,7 @@ sbrc k r b two = skips k (bar (reg k r ! b)) two
 abbrev pub sbrs : Core → ℕ → ℕ → Bool → Core
 sbrs k r b two = skips k (reg k r ! b) two
 
--- SLEEP: "sets the circuit in sleep mode". 1 word, 1 cycle. The Rust goes on, with an answer
+-- SLEEP: the core goes to sleep. 1 word, 1 cycle. The Rust goes on, with an answer
 unfoldable pub sleep : Switches → Core → List ℕ → Says
 sleep s k m = pick (s .outside) (says Sleep (next k 1 1) m) (sleeps (next k 1 1) m)
 
@@ -142,6 +142,6 @@ subi k d K =
 unfoldable pub swap : Core → ℕ → Core
 swap k d = withReg (next k 1 1) d (reg k d % 16 * 16 + reg k d / 16)
 
--- WDR, watchdog reset: "resets the Watchdog Timer", which is no part of this core. 1 word, 1 cycle. The Rust answers watchdog
+-- WDR, watchdog reset: the watchdog timer, which is no part of this core, is reset. 1 word, 1 cycle. The Rust answers watchdog
 unfoldable pub wdr : Switches → Core → List ℕ → Says
 wdr s k m = says (pick (s .outside) Watchdog Ran) (next k 1 1) m

@@ -1,4 +1,4 @@
--- THE THREE DEMANDS. Each line names a statement; the definitions that a statement rests on stand in the file that its heading names.
+-- THE THREE DEMANDS, each in the words of those who asked for it. A line names a statement; the comment above it names the file where that stands.
 use Rattle.invariants.specs.Ticks.{TicksStayInRange, RefusedTicksChangeNothing, TicksLeaveBusyAtMost4}
 use Rattle.run.specs.Run.{SameUnderLargerBudget}
 use Rattle.snapshot.specs.Snapshot.{ReadingUndoesWriting, WritingUndoesReading}
@@ -18,7 +18,10 @@ use Rattle.promises.specs.Stamps.{StampsInOrder, FlagLost}
 pub record Demand1 : Type 1 where
   -- crates/table/specs/Table.antt: the answer is a number of 01's table exactly when its row's condition holds; one row holds
   pub tick : AnswersByTheTable
+  -- crates/invariants/specs/Ticks.antt: a refused tick changes nothing; every core stays one
   pub refused : RefusedTicksChangeNothing
+  pub in-range : TicksStayInRange
+  pub busy : TicksLeaveBusyAtMost4
   -- crates/table/specs/Calls.antt: the same of 6, of 5 and 7 to 9, of 24, and of 10
   pub registers : RegistersByTheTable
   pub writing : WritesByTheTable
@@ -29,9 +32,6 @@ pub record Demand1 : Type 1 where
   pub run-call : RunCallsByTheTable
   -- OneOutcome.antt: whatever meets a contract of this code is one outcome
   pub one-outcome : OneOutcome
-  -- crates/invariants/specs/Ticks.antt: every core stays one
-  pub in-range : TicksStayInRange
-  pub busy : TicksLeaveBusyAtMost4
   -- crates/snapshot/specs/Snapshot.antt
   pub reading-undoes-writing : ReadingUndoesWriting
   pub writing-undoes-reading : WritingUndoesReading
@@ -50,7 +50,7 @@ pub record Demand2 : Type 0 where
   -- crates/manual_opcodes/specs/Opcodes.antt, crates/manual/specs/Statement.antt
   pub manual-opcodes : DecodesAsTheManual
   pub manual : EqualsTheManual
-  -- its listed differences, each alone and with its smallest input
+  -- its listed differences, each alone
   pub switches : EqualsBySwitches
   pub adiw : AdiwAlone
   pub loads : LoadsAlone
@@ -61,6 +61,7 @@ pub record Demand2 : Type 0 where
   pub end : EndAlone
   pub target : TargetAlone
   pub pointers : PointersAlone
+  -- crates/manual/specs/Witnesses.antt
   pub witnesses : Witnesses
   -- crates/table/specs/Calls.antt, crates/run/specs/Run.antt
   pub run : RunsAreTicks

@@ -1,4 +1,4 @@
--- 01: "Prove that two outcomes meeting one contract are the same." Every public function's contract is one of these nine kinds; docs/CONTRACTS.md says which is whose.
+-- 01: "Prove that two outcomes meeting one contract are the same." Every public function's contract is one of these ten; docs/CONTRACTS.md says which is whose.
 use mathlib.Core.Path.{_≡_}
 use mathlib.Core.List.{List}
 use Prim.Native.Nat.{ℕ}

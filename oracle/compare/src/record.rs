@@ -88,7 +88,7 @@ impl Record {
         Ok(())
     }
 
-    /// The three ticks that stood here before there was an original to ask.
+    /// Three ticks with short programs and data, at the start so that a reader can follow them byte by byte.
     fn first(&mut self) -> Result<(), String> {
         for case in bench::first() {
             self.one(&case)?;
