@@ -8,7 +8,7 @@ use lib.ListN.{getD, set}
 use Rattle.basis.specs.Pick.{pick}
 use Rattle.basis.specs.Bit.{one, bit, up, down}
 use Rattle.alu.specs.Alu.{signedOf, minusOf}
-use Rattle.instruction.specs.Fields.{twoWords}
+use Rattle.instruction.specs.Code.{twoWords}
 use Rattle.instruction.specs.declared.Instruction.{Instruction}
 use Rattle.memory.specs.Memory.{hasOf, programWordOf}
 use Rattle.cores.specs.declared.Core.{Core}
@@ -81,9 +81,13 @@ abbrev pub dataBitIs : List ℕ → ℕ → ℕ → Bool → Bool
 dataBitIs m A b on = hasOf m A && Bool·beq (bit (getD m A 0) b) on
 
 module _ (decode : ℕ → ℕ → Instruction) where
+  -- the instruction that begins at a PC
+  abbrev pub opAt : List ℕ → ℕ → Instruction
+  opAt p pc = decode (programWordOf p pc) (programWordOf p (pc + 1))
+
   -- the word to be skipped begins an instruction of two words
   abbrev pub twoAt : Core → List ℕ → Bool
-  twoAt k p = twoWords (decode (programWordOf p (k .pc)) (programWordOf p (k .pc + 1)))
+  twoAt k p = twoWords (opAt p (k .pc))
 
   abbrev pub cpseOf : Core → ℕ → ℕ → List ℕ → Core
   cpseOf k d r p = skipped k (eqb (reg k d) (reg k r)) (twoAt k p)

@@ -1,4 +1,4 @@
--- Which instruction it is, whatever its fields; and 01's list of those that touch registers alone.
+-- Which instruction it is, whatever its fields; and 01's lists: those of two words, and those that touch registers alone.
 use mathlib.Core.Bool.{Bool, false, _||_}
 use mathlib.Core.List.{List, [], _∷_}
 use Prim.Native.Nat.{ℕ}
@@ -100,6 +100,10 @@ code UNDEF = (86, 0, 0)
 abbrev pub oneOf : List Instruction → Instruction → Bool
 oneOf [] i = false
 oneOf (j ∷ l) i = eqb (code i .0) (code j .0) || oneOf l i
+
+-- "a second word the instruction uses (CALL JMP LDS STS)"
+abbrev pub twoWords : Instruction → Bool
+twoWords = oneOf (CALL 0 ∷ JMP 0 ∷ LDS 0 0 ∷ STS 0 0 ∷ [])
 
 -- "Register-only list: ADC ADD ADIW AND ANDI ASR BCLR BLD BSET BST COM CP CPC CPI DEC EOR FMUL FMULS FMULSU INC LDI LSR MOV MOVW MUL MULS MULSU
 -- NEG NOP OR ORI ROR SBC SBCI SBIW SUB SUBI SWAP."

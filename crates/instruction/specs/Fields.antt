@@ -1,6 +1,5 @@
 -- What every word decodes to: the ranges of its fields, and how far the second word goes into it.
 use Prim.Native.Nat.{ℕ, _+_, _%_, _<_}
-use mathlib.Core.Bool.{Bool, true, false}
 use mathlib.Core.Path.{_≡_}
 use Rattle.instruction.specs.Decode.{decodeOf}
 use Rattle.instruction.specs.declared.Instruction.{Instruction}
@@ -125,96 +124,6 @@ InFields (SUBI d K) = (Register d) × (Byte K)
 InFields (SWAP d) = Register d
 InFields WDR = Unit {0}
 InFields UNDEF = Unit {0}
-
--- the instructions of two words: "CALL JMP LDS STS"
-abbrev pub twoWords : Instruction → Bool
-twoWords (ADC d r) = false
-twoWords (ADD d r) = false
-twoWords (ADIW d K) = false
-twoWords (AND d r) = false
-twoWords (ANDI d K) = false
-twoWords (ASR d) = false
-twoWords (BCLR s) = false
-twoWords (BLD d b) = false
-twoWords (BRBC s k) = false
-twoWords (BRBS s k) = false
-twoWords BREAK = false
-twoWords (BSET s) = false
-twoWords (BST d b) = false
-twoWords (CALL k) = true
-twoWords (CBI A b) = false
-twoWords (COM d) = false
-twoWords (CP d r) = false
-twoWords (CPC d r) = false
-twoWords (CPI d K) = false
-twoWords (CPSE d r) = false
-twoWords (DEC d) = false
-twoWords (EOR d r) = false
-twoWords (FMUL d r) = false
-twoWords (FMULS d r) = false
-twoWords (FMULSU d r) = false
-twoWords ICALL = false
-twoWords IJMP = false
-twoWords (IN d A) = false
-twoWords (INC d) = false
-twoWords (JMP k) = true
-twoWords (LDX d) = false
-twoWords (LDXinc d) = false
-twoWords (LDXdec d) = false
-twoWords (LDYinc d) = false
-twoWords (LDYdec d) = false
-twoWords (LDZinc d) = false
-twoWords (LDZdec d) = false
-twoWords (LDDY d q) = false
-twoWords (LDDZ d q) = false
-twoWords (LDI d K) = false
-twoWords (LDS d k) = true
-twoWords LPM = false
-twoWords (LPMZ d) = false
-twoWords (LPMZinc d) = false
-twoWords (LSL d) = false
-twoWords (LSR d) = false
-twoWords (MOV d r) = false
-twoWords (MOVW d r) = false
-twoWords (MUL d r) = false
-twoWords (MULS d r) = false
-twoWords (MULSU d r) = false
-twoWords (NEG d) = false
-twoWords NOP = false
-twoWords (OR d r) = false
-twoWords (ORI d K) = false
-twoWords (OUT A r) = false
-twoWords (POP d) = false
-twoWords (PUSH d) = false
-twoWords (RCALL k) = false
-twoWords RET = false
-twoWords RETI = false
-twoWords (RJMP k) = false
-twoWords (ROR d) = false
-twoWords (SBC d r) = false
-twoWords (SBCI d K) = false
-twoWords (SBI A b) = false
-twoWords (SBIC A b) = false
-twoWords (SBIS A b) = false
-twoWords (SBIW d K) = false
-twoWords (SBRC r b) = false
-twoWords (SBRS r b) = false
-twoWords SLEEP = false
-twoWords (STX r) = false
-twoWords (STXdec r) = false
-twoWords (STXinc r) = false
-twoWords (STYdec r) = false
-twoWords (STYinc r) = false
-twoWords (STZdec r) = false
-twoWords (STZinc r) = false
-twoWords (STDY q r) = false
-twoWords (STDZ q r) = false
-twoWords (STS k r) = true
-twoWords (SUB d r) = false
-twoWords (SUBI d K) = false
-twoWords (SWAP d) = false
-twoWords WDR = false
-twoWords UNDEF = false
 
 -- an instruction decoded with 0 for its second word, with s put in
 abbrev pub withSecond : ℕ → Instruction → Instruction

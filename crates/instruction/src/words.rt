@@ -1,7 +1,7 @@
 // How many words an instruction has.
 use crate::Instruction;
 ghost use mathlib.Core.Path.{_≡_};
-ghost use Rattle.instruction.specs.Fields.{twoWords};
+ghost use Rattle.instruction.specs.Code.{twoWords};
 
 impl Instruction {
     // CALL, JMP, LDS and STS have a second word.

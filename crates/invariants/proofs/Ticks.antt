@@ -14,7 +14,7 @@ use Rattle.instruction.proofs.Laws.{fields-in-range}
 use Rattle.memory.specs.Memory.{programWordOf}
 use Rattle.cores.specs.declared.Core.{Core}
 use Rattle.cores.specs.State.{withPc, withBusy, withInhibit, withService, Sound, Bytes}
-use Rattle.cores.specs.Flow.{wordPushed}
+use Rattle.cores.specs.Flow.{wordPushed, opAt}
 use Rattle.cores.proofs.Bounds.{program-word-lt}
 use Rattle.execute.specs.declared.Done.{Done}
 use Rattle.execute.specs.declared.Done.the-variants as done
@@ -22,7 +22,7 @@ use Rattle.tick.specs.Tick.{numberOf, refuses, answerOf, due, entry}
 use Rattle.tick.specs.declared.Offer.{Offer}
 use Rattle.tick.specs.declared.Answer.{Answer}
 use Rattle.tick.specs.declared.Answer.the-variants.{Refused, Waited, Entered, End}
-use Rattle.tick.proofs.Steps.{every-due, onward, opAt, performed, every-tick, done-refuses-not}
+use Rattle.tick.proofs.Steps.{every-due, onward, performed, every-tick, done-refuses-not}
 use Rattle.invariants.specs.Instructions.{ByteOperand, InRange}
 use Rattle.invariants.specs.Ticks.{Offered, TickNumber, TicksStayInRange, RefusedTicksChangeNothing, TicksAnswerTickNumbers, Brief, TicksLeaveBusyAtMost4}
 use Rattle.invariants.proofs.Fits.{fits-of, sound-of, fits-pc, fits-busy, fits-inhibit, fits-service}

@@ -9,7 +9,8 @@ use borrow.Author.Tests.{le-ltb}
 use Rattle.basis.specs.Pick.{pick}
 use Rattle.basis.proofs.Choice.{clash}
 use Rattle.instruction.specs.Decode.{decodeOf}
-use Rattle.instruction.specs.Fields.{twoWords}
+use Rattle.instruction.specs.Code.{twoWords}
+use Rattle.cores.specs.Flow.{opAt}
 use Rattle.cores.specs.declared.Core.{Core}
 use Rattle.cores.specs.State.{Sound, withPc, withInhibit}
 use Rattle.execute.specs.Needs.{Needs, refusal, needs, fetched, withFetch, pushNeeds}
@@ -21,7 +22,6 @@ use Rattle.tick.specs.declared.Offer.the-variants.{Vector, Nothing}
 use Rattle.tick.specs.declared.Answer.the-variants.{End}
 use Rattle.tick.specs.Tick as paper
 use Rattle.tick.specs.Tick.{Tick, gives, answerOf, decided, due, executedTick, stepped, ticked, tickOf}
-use Rattle.tick.proofs.Steps.{opAt}
 use Rattle.manual.specs.Switches.{Switches, Says, says}
 use Rattle.manual.specs.Tick.{told, unless, opcodeAt, step, entersOrSteps, tickBy}
 use Rattle.manual.specs.Statement.{ended, withEnd, EndAlone}

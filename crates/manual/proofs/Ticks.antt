@@ -11,12 +11,12 @@ use Rattle.basis.specs.Pick.{pick}
 use Rattle.basis.proofs.Choice.{clash}
 use Rattle.instruction.specs.Decode.{decodeOf}
 use Rattle.instruction.proofs.Laws.{fields-in-range}
-use Rattle.instruction.specs.Fields.{twoWords}
+use Rattle.instruction.specs.Code.{twoWords}
 use Rattle.instruction.specs.declared.Instruction.{Instruction}
 use Rattle.memory.specs.Memory.{programWordOf}
 use Rattle.cores.specs.declared.Core.{Core}
 use Rattle.cores.specs.State.{Sound, Bytes, withPc, withInhibit}
-use Rattle.cores.specs.Flow.{twoAt}
+use Rattle.cores.specs.Flow.{twoAt, opAt}
 use Rattle.cores.proofs.Bounds.{program-word-lt}
 use Rattle.execute.specs.Needs.{Needs, refusal, needs, fetched, withFetch, pushNeeds}
 use Rattle.execute.specs.Execute.{executed}
@@ -27,7 +27,6 @@ use Rattle.tick.specs.declared.Offer.the-variants.{Vector, Nothing}
 use Rattle.tick.specs.declared.Answer.the-variants.{Refused, End}
 use Rattle.tick.specs.Tick as paper
 use Rattle.tick.specs.Tick.{Tick, gives, answerOf, due, executedTick, stepped, ticked, tickOf}
-use Rattle.tick.proofs.Steps.{opAt}
 use Rattle.manual_opcodes.proofs.Decodes.{decodes-as-the-manual}
 use Rattle.manual.specs.Switches.{Switches, Says, says}
 use Rattle.manual.specs.Tick.{told, unless, opcodeAt, step, entersOrSteps, tickBy}

@@ -11,11 +11,12 @@ use Rattle.alu.specs.Alu.{minusOf}
 use Rattle.instruction.specs.Decode.{decodeOf, nopToAddOf, cpseToAdcOf, immediateOf, loadOf, storeOf, oneRegisterOf, controlOf, portOf}
 use Rattle.memory.specs.Memory.{programWordOf, hasWordOf}
 use Rattle.cores.specs.State.{reg, freshOf, withReg, withPc, withSp, withBusy, withInhibit, withService, cznvsh, cznvs, znvs}
+use Rattle.cores.specs.Flow.{opAt}
 use Rattle.cores.specs.Transfer.{reachOf, dataOf, setDataOf}
 use Rattle.tick.specs.Tick.{stepped, entersOrSteps, ticked}
 use Rattle.promises.specs.RegisterOnly.{registerOnly, kindOf}
 use Rattle.promises.specs.Handlers.{iterated, First}
-use Rattle.promises.specs.Interrupts.{noOffers, byteAt, instructionAt, Begins, Ended, Restored, AssumedTo, NoTrace}
+use Rattle.promises.specs.Interrupts.{noOffers, byteAt, Begins, Ended, Restored, AssumedTo, NoTrace}
 use Rattle.promises.specs.Stamps.{program, start, between, plain, careful, careless, StampsInOrder, FlagLost}
 use Rattle.promises.proofs.Logic.{grow, first-unique}
 use Rattle.promises.proofs.Interrupts.{no-trace-at-the-end}
@@ -32,7 +33,7 @@ begins =
       stretch = record {
         ends = omega arith;
         there = λ x a h. below-3 (λ x. hasWordOf program x ≡ true) refl refl refl x h;
-        list = λ x a h. below-3 (λ x. kindOf (instructionAt program x) ≡ registerOnly) refl refl refl x h;
+        list = λ x a h. below-3 (λ x. kindOf (opAt decodeOf program x) ≡ registerOnly) refl refl refl x h;
       };
       ready = refl;
       free = refl;

@@ -16,6 +16,7 @@ use Rattle.instruction.specs.declared.Instruction.{Instruction}
 use Rattle.instruction.specs.declared.Instruction.the-variants.{RETI}
 use Rattle.memory.specs.Memory.{hasOf, hasWordOf}
 use Rattle.cores.specs.declared.Core.{Core}
+use Rattle.cores.specs.Flow.{opAt}
 use Rattle.cores.specs.State.{freshOf, withPc, withSp, withBusy, withInhibit, withService}
 use Rattle.execute.specs.Needs.{refusal, pushNeeds, needs, fetched, withFetch}
 use Rattle.execute.specs.Execute.{executed}
@@ -26,7 +27,7 @@ use Rattle.tick.specs.declared.Offer.the-variants.{Vector, Nothing}
 use Rattle.tick.specs.declared.Answer.the-variants.{Ran, Entered}
 use Rattle.tick.proofs.Steps.{every-decided, every-due, onward, every-tick}
 use Rattle.promises.specs.RegisterOnly.{Kind, registerOnly, return, other, kindOf, isReturn}
-use Rattle.promises.specs.Interrupts.{State, Kept, kept, pc, sp, tickAt, next, instructionAt, Stretch}
+use Rattle.promises.specs.Interrupts.{State, Kept, kept, pc, sp, tickAt, next, Stretch}
 use Rattle.promises.specs.Machine.{Machine, Laws, Waits, Runs, Enters, Returns}
 use Rattle.promises.proofs.Instructions.{keptOf, withKept, doesOf, waitsOf, Fact, fact}
 use Rattle.promises.proofs.Ticks.{done-enters-not, busy-tick, free-tick}
@@ -44,7 +45,7 @@ entersIn t = eqb (number t) 17
 
 -- from PC x
 abbrev returnsIn : List ℕ → ℕ → Tick → Bool
-returnsIn p x t = eqb (number t) 18 && isReturn (kindOf (instructionAt p x))
+returnsIn p x t = eqb (number t) 18 && isReturn (kindOf (opAt decodeOf p x))
 
 abbrev pub avr : List ℕ → Machine
 avr p =
@@ -98,9 +99,9 @@ module _ (p : List ℕ) where
 
   -- at an instruction of the list, with data m
   module _ (k : Core) (m : List ℕ) (b : k .busy ≡ 0) (h : k .pc < 65535) (there : hasWordOf p (k .pc) ≡ true)
-      (l : kindOf (instructionAt p (k .pc)) ≡ registerOnly) where
+      (l : kindOf (opAt decodeOf p (k .pc)) ≡ registerOnly) where
     abbrev op : Instruction
-    op = instructionAt p (k .pc)
+    op = opAt decodeOf p (k .pc)
 
     -- with no vector due
     run-tick : entersOrSteps decodeOf k p m Nothing ≡ gives Ran (ranOn k op) m
@@ -131,7 +132,7 @@ module _ (p : List ℕ) where
   -- ---- nothing due: nothing enters
   -- what the instruction at PC answers
   abbrev doneBy : Core → List ℕ → Done
-  doneBy k m = executed decodeOf (onward k) (instructionAt p (k .pc)) p m .done
+  doneBy k m = executed decodeOf (onward k) (opAt decodeOf p (k .pc)) p m .done
 
   none-enters : (o : Offer) (s : State) → due (s .core) o ≡ Nothing → entersIn (tickAt p o s) ≡ false
   none-enters o s h =
@@ -173,7 +174,7 @@ module _ (p : List ℕ) where
   unfolding withBusy withInhibit withPc withService
   serve-law o s h =
       let k = s .core in
-      let op = instructionAt p (pc s) in
+      let op = opAt decodeOf p (pc s) in
       every-tick decodeOf (λ t. returnsIn p (pc s) t ≡ false → t .core .«in_service» ≡ true) k p (s .bytes) o
       (λ n g l r. h) (λ g l r. h) (λ b v e x r. refl) (λ b e l r. h)
       (λ b e l x r. serving-step op (kindOf op) (onward k) (s .bytes) b (fact op (onward k) p (s .bytes)) r ∙ h)
@@ -197,7 +198,7 @@ module _ (p : List ℕ) where
       let two-up : up (k .sp) 2 ≡ k .sp + 2 = omega arith in
       record { room = room; kept′ = refl; sp′ = two-up; pc′ = rw (one-up, two-up); busy′ = refl; inhibit′ = refl; service′ = refl }
 
-  reti-tick : (o : Offer) (k : Core) (m : List ℕ) → instructionAt p (k .pc) ≡ RETI → eqb (number (tickOf k p m o)) 18 ≡ true
+  reti-tick : (o : Offer) (k : Core) (m : List ℕ) → opAt decodeOf p (k .pc) ≡ RETI → eqb (number (tickOf k p m o)) 18 ≡ true
       → Returns (avr p) (record { core = k; bytes = m }) (stateOf (tickOf k p m o))
   reti-tick o k m op =
       let Back : Tick → Type 0 = λ t. Returns (avr p) (record { core = k; bytes = m }) (stateOf t) in
@@ -211,16 +212,16 @@ module _ (p : List ℕ) where
 
   pub reti-law : (o : Offer) (s : State) → returnsIn p (pc s) (tickAt p o s) ≡ true → Returns (avr p) s (next p o s)
   reti-law o s h =
-      let (ran, is) = both-true (eqb (number (tickAt p o s)) 18) (isReturn (kindOf (instructionAt p (pc s)))) h in
-      reti-tick o (s .core) (s .bytes) (kind-return (instructionAt p (pc s)) is) ran
+      let (ran, is) = both-true (eqb (number (tickAt p o s)) 18) (isReturn (kindOf (opAt decodeOf p (pc s)))) h in
+      reti-tick o (s .core) (s .bytes) (kind-return (opAt decodeOf p (pc s)) is) ran
 
   -- ---- all of them, of a stretch
   pub tick-laws : (start finish : ℕ) → Stretch p start finish → Laws (avr p) start finish
   tick-laws start finish S =
       record {
-        does = λ x. doesOf (instructionAt p x);
-        cost = λ x. waitsOf (instructionAt p x);
-        cheap = λ x a b. leb-true (waitsOf (instructionAt p x)) 1 (listed (instructionAt p x) (freshOf 0) [] (S .list x a b) .3);
+        does = λ x. doesOf (opAt decodeOf p x);
+        cost = λ x. waitsOf (opAt decodeOf p x);
+        cheap = λ x a b. leb-true (waitsOf (opAt decodeOf p x)) 1 (listed (opAt decodeOf p x) (freshOf 0) [] (S .list x a b) .3);
         wait = wait-law;
         calm = λ s i.
             let there = S .there (pc s) (i .above) (i .below) in

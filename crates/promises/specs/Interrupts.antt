@@ -25,9 +25,9 @@ use Prim.Native.Nat.{ℕ, suc, _+_, _*_, _-_, _≤_, _<_}
 use lib.Dec.{eqb}
 use lib.ListN.{getD}
 use Rattle.instruction.specs.Decode.{decodeOf}
-use Rattle.instruction.specs.declared.Instruction.{Instruction}
-use Rattle.memory.specs.Memory.{programWordOf, hasWordOf}
+use Rattle.memory.specs.Memory.{hasWordOf}
 use Rattle.cores.specs.declared.Core.{Core}
+use Rattle.cores.specs.Flow.{opAt}
 use Rattle.tick.specs.declared.Offer.{Offer}
 use Rattle.tick.specs.declared.Offer.the-variants.{Nothing}
 use Rattle.tick.specs.Tick.{Tick, tickOf, numberOf}
@@ -35,14 +35,11 @@ use Rattle.promises.specs.RegisterOnly.{registerOnly, kindOf, isReturn}
 use Rattle.promises.specs.Handlers.{iterated, First, NotYet, FirstReti, OfHandler, countedAt, handlerTicks}
 
 -- ---- the stretch
-abbrev pub instructionAt : List ℕ → ℕ → Instruction
-instructionAt p x = decodeOf (programWordOf p x) (programWordOf p (x + 1))
-
 -- the words at PC `start` and on, below `finish`, are in program and on the list
 pub record Stretch (p : List ℕ) (start finish : ℕ) : Type 0 where
   pub ends : finish ≤ 65535
   pub there : (x : ℕ) → start ≤ x → x < finish → hasWordOf p x ≡ true
-  pub list : (x : ℕ) → start ≤ x → x < finish → kindOf (instructionAt p x) ≡ registerOnly
+  pub list : (x : ℕ) → start ≤ x → x < finish → kindOf (opAt decodeOf p x) ≡ registerOnly
 
 -- ---- a run of program p: core and data, tick by tick
 pub record State : Type 0 where
@@ -101,7 +98,7 @@ module _ (p : List ℕ) (s : State) where
 
   -- tick t executes RETI: it answers ran, and RETI stands at PC
   abbrev pub returns : Offers → ℕ → Bool
-  returns v t = eqb (numberAt v t) 18 && isReturn (kindOf (instructionAt p (pc (after v t))))
+  returns v t = eqb (numberAt v t) 18 && isReturn (kindOf (opAt decodeOf p (pc (after v t))))
 
   -- after j ticks the run is at the end of the stretch of n instructions
   abbrev pub Ended : ℕ → Offers → ℕ → Type 0

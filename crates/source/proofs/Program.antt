@@ -13,13 +13,14 @@ use Rattle.basis.specs.Pick.{pick}
 use Rattle.basis.proofs.Choice.{same}
 use Rattle.instruction.specs.declared.Instruction.{Instruction}
 use Rattle.instruction.specs.Decode.{decodeOf}
-use Rattle.instruction.specs.Fields.{InFields, twoWords}
+use Rattle.instruction.specs.Code.{twoWords}
+use Rattle.instruction.specs.Fields.{InFields}
 use Rattle.instruction.proofs.Laws.{fields-in-range}
 use Rattle.instruction.proofs.Tests.{each}
 use Rattle.memory.specs.Memory.{wordOf, programWordOf, hasWordOf}
+use Rattle.cores.specs.Flow.{opAt}
 use Rattle.cores.specs.State.{Bytes}
 use Rattle.cores.proofs.Bounds.{program-word-lt}
-use Rattle.tick.proofs.Steps.{opAt}
 use Rattle.source_decode.specs.RustDecode.{rustDecode}
 use Rattle.source_decode.proofs.Decodes.{decodes-as-the-rust}
 use Rattle.source.specs.Monad.{Self, Outcome, ok, panic}

@@ -9,6 +9,7 @@ use lib.Dec.{eqb, ltb}
 use borrow.Author.Tests.{eqb-false, le-ltb}
 use Rattle.basis.specs.Pick.{pick}
 use Rattle.instruction.specs.Decode.{decodeOf}
+use Rattle.cores.specs.Flow.{opAt}
 use Rattle.cores.specs.declared.Core.{Core}
 use Rattle.cores.specs.State.{withPc, withBusy, withInhibit}
 use Rattle.tick.specs.declared.Offer.{Offer}
@@ -17,7 +18,7 @@ use Rattle.tick.specs.declared.Answer.the-variants.{Waited, Entered, End}
 use Rattle.execute.specs.Needs.{Needs, refusal, pushNeeds, needs, fetched, withFetch}
 use Rattle.execute.specs.Execute.{executed}
 use Rattle.tick.specs.Tick.{Tick, numberOf, refuses, gives, decided, due, entry, executedTick, stepped, entersOrSteps, ticked, tickOf, inPlace}
-use Rattle.tick.proofs.Steps.{refusal-le, done-refuses-not, opAt}
+use Rattle.tick.proofs.Steps.{refusal-le, done-refuses-not}
 use Rattle.source.specs.Monad.{Self, panic}
 use Rattle.source.specs.Statement.{Matches, panics, selfOf, EqualsTheRust, RefusedExactlyWhereItPanics, CodeEqualsTheRust, InPlaceEqualsTheRust}
 use Rattle.source.proofs.Tick.{shown, tick-is}

@@ -10,8 +10,9 @@ use lib.ListN.{set, length, length-set}
 use borrow.Author.Tests.{lt-ltb, le-ltb, eqb-true, eqb-false}
 use Rattle.basis.specs.Pick.{pick}
 use Rattle.instruction.specs.Decode.{decodeOf}
-use Rattle.instruction.specs.Fields.{twoWords}
+use Rattle.instruction.specs.Code.{twoWords}
 use Rattle.memory.specs.Memory.{hasWordOf}
+use Rattle.cores.specs.Flow.{opAt}
 use Rattle.cores.specs.declared.Core.{Core}
 use Rattle.cores.specs.State.{Sound, Bytes, out, withPc, withSp, withBusy, withInhibit, withService, flag}
 use Rattle.tick.specs.declared.Offer.{Offer}
@@ -20,7 +21,7 @@ use Rattle.tick.specs.declared.Answer.the-variants.{Entered, End}
 use Rattle.execute.specs.Needs.{Needs, refusal, pushNeeds, needs, fetched, withFetch}
 use Rattle.execute.specs.Execute.{executed}
 use Rattle.tick.specs.Tick.{Tick, refuses, stops, gives, decided, due, entry, executedTick, stepped, entersOrSteps, ticked, tickOf}
-use Rattle.tick.proofs.Steps.{done-refuses-not, opAt}
+use Rattle.tick.proofs.Steps.{done-refuses-not}
 use Rattle.source.specs.Monad.{Self, Outcome, ok, panic, after, withCore, return}
 use Rattle.source.specs.Registers.{ds·write}
 use Rattle.source.specs.Tick.{service-pending, entered-by, handle-interrupts, fetch, execute, tick}

@@ -4,13 +4,12 @@ use mathlib.Core.Path.{_≡_, refl, sym, ap, subst, _∙_}
 use mathlib.Core.Logic.{_↔_, _⊎_, inl, inr}
 use mathlib.Core.Bool.{Bool, true, false, not, _&&_}
 use mathlib.Core.List.{List, [], _∷_}
-use Prim.Native.Nat.{ℕ, zero, suc, _+_, _/_, _%_, _≤_, _<_}
+use Prim.Native.Nat.{ℕ, zero, suc, _+_, _/_, _%_, _<_}
 use native.Mathlib.Omega.{arith}
 use borrow.Author.Tests.{ne-eqb}
-use lib.Dec.{eqb, ltb, eqb→eq}
+use lib.Dec.{eqb, ltb}
 use lib.ListN.{getD}
 use Rattle.basis.proofs.Choice.{clash, test}
-use Rattle.basis.proofs.Both.{both-left, both-right}
 use Rattle.cores.specs.declared.Core.{Core}
 use Rattle.cores.specs.State.{Bytes, readRegisterOf, setRegisterOf}
 use Rattle.tick.specs.declared.Offer.{Offer}
@@ -26,11 +25,8 @@ use Rattle.host.specs.Host.{Told, told, toldTicks, offerOf, avrTickOf, avrRunOf
 use Rattle.invariants.specs.Ticks.{TickNumber}
 use Rattle.invariants.proofs.Ticks.{ticks-answer-tick-numbers, refused-ticks-change-nothing}
 use Rattle.table.specs.Table.{rows, ExactlyWhen, holding}
-use Rattle.table.specs.Calls.{Given, registerRows, RegistersByTheTable, whole, writeRows, WritesByTheTable, readable, readRows, ReadsByTheTable, goesOn, RunsByTheTable, afterTicks, Spent, RefusedNext, StoppedLast, RunsAreTicks, onlyIf, checkRows, TickCallsByTheTable, RefusedTickCallsChangeNothing, RunCallsByTheTable}
-use Rattle.table.proofs.Table.{fits, Fits, exactly, fits-the-table}
-
-shown : (a : ℕ) (l : List (ℕ × Bool)) → Fits a l → Given a l
-shown a l t = (exactly a l (both-left (fits a l) (eqb (holding l) 1) t), eqb→eq (holding l) 1 (both-right (fits a l) (eqb (holding l) 1) t))
+use Rattle.table.specs.Calls.{registerRows, RegistersByTheTable, of38, writeRows, WritesByTheTable, readable, readRows, ReadsByTheTable, goesOn, RunsByTheTable, afterTicks, Spent, RefusedNext, StoppedLast, RunsAreTicks, onlyIf, checkRows, TickCallsByTheTable, RefusedTickCallsChangeNothing, RunCallsByTheTable}
+use Rattle.table.proofs.Table.{Fits, exactly, shown, fits-the-table}
 
 -- ---- registers
 pub registers-by-the-table : RegistersByTheTable
@@ -43,17 +39,17 @@ registers-by-the-table k r v = (
 
 -- ---- snapshots
 module _ (s : List ℕ) where
-  by-checks : {X : Type 0} → (whole s ≡ false → X) → (whole s ≡ true → ltb 4 (getD s 37 0 / 32) ≡ true → X)
-      → (whole s ≡ true → ltb 4 (getD s 37 0 / 32) ≡ false → eqb (getD s 37 0 % 8) 0 ≡ false → X)
-      → (whole s ≡ true → ltb 4 (getD s 37 0 / 32) ≡ false → eqb (getD s 37 0 % 8) 0 ≡ true → X) → X
+  by-checks : {X : Type 0} → (of38 s ≡ false → X) → (of38 s ≡ true → ltb 4 (getD s 37 0 / 32) ≡ true → X)
+      → (of38 s ≡ true → ltb 4 (getD s 37 0 / 32) ≡ false → eqb (getD s 37 0 % 8) 0 ≡ false → X)
+      → (of38 s ≡ true → ltb 4 (getD s 37 0 / 32) ≡ false → eqb (getD s 37 0 % 8) 0 ≡ true → X) → X
   by-checks short busy spare fine =
-      test (whole s) (λ w. test (ltb 4 (getD s 37 0 / 32)) (busy w) λ b. test (eqb (getD s 37 0 % 8) 0) (fine w b) (spare w b)) short
+      test (of38 s) (λ w. test (ltb 4 (getD s 37 0 / 32)) (busy w) λ b. test (eqb (getD s 37 0 % 8) 0) (fine w b) (spare w b)) short
 
 pub writes-by-the-table : WritesByTheTable
 writes-by-the-table k s = (
   shown (writeOf k s .refusal) (writeRows k s)
-      (test (whole s) (λ w. test (ltb 4 (k .busy)) (λ b. rw (w, b) tt) λ b. rw (w, b) tt) λ w. rw w tt),
-  test (whole s) (λ w. test (ltb 4 (k .busy)) (λ b. rw (w, b) (λ z. refl)) λ b. rw (w, b) (λ z. absurd (z refl))) (λ w. rw w (λ z. refl)),
+      (test (of38 s) (λ w. test (ltb 4 (k .busy)) (λ b. rw (w, b) tt) λ b. rw (w, b) tt) λ w. rw w tt),
+  test (of38 s) (λ w. test (ltb 4 (k .busy)) (λ b. rw (w, b) (λ z. refl)) λ b. rw (w, b) (λ z. absurd (z refl))) (λ w. rw w (λ z. refl)),
 )
 
 pub reads-by-the-table : ReadsByTheTable
@@ -174,7 +170,7 @@ module _ (s : List ℕ) (offer a : ℕ) (l : List (ℕ × Bool)) where
       → Fits a ((10, false) ∷ (7, false) ∷ (8, false) ∷ (9, false) ∷ onlyIf true l)
   behind t f g h r = let z : 0 + (0 + (0 + (0 + holding l))) ≡ holding l = omega arith in rw (always l, t, f, g, h, z) r
 
-  passed : ltb 65536 offer ≡ false → whole s ≡ true → ltb 4 (getD s 37 0 / 32) ≡ false → eqb (getD s 37 0 % 8) 0 ≡ true
+  passed : ltb 65536 offer ≡ false → of38 s ≡ true → ltb 4 (getD s 37 0 / 32) ≡ false → eqb (getD s 37 0 % 8) 0 ≡ true
       → Fits a ((10, false) ∷ (7, false) ∷ (8, false) ∷ (9, false) ∷ onlyIf true l) → Fits a (checkRows s offer l)
   passed o w b z t = rw (o, w, b, z) t
 
@@ -193,13 +189,13 @@ module _ (s : List ℕ) (h : Bytes s) (p m : List ℕ) (offer : ℕ) where
   pc-lt : core .pc < 65536
   pc-lt = omega (arith, h .byte-lt 33, h .byte-lt 34)
 
-  called : ltb 65536 offer ≡ false → whole s ≡ true → ltb 4 (getD s 37 0 / 32) ≡ false → eqb (getD s 37 0 % 8) 0 ≡ true
+  called : ltb 65536 offer ≡ false → of38 s ≡ true → ltb 4 (getD s 37 0 / 32) ≡ false → eqb (getD s 37 0 % 8) 0 ≡ true
       → avrTickOf s p m offer ≡ told number (writeOf (tickOf core p m (offerOf offer) .core) s .bytes) (tickOf core p m (offerOf offer) .bytes)
   unfolding avrTickOf
   called o w b z = let r : readOf s ≡ record { refusal = 0; core = core } = rw (w, b, z) refl in rw (o, r) refl
 
   -- what was read is written back
-  unchanged : whole s ≡ true → ltb 4 (getD s 37 0 / 32) ≡ false → eqb (getD s 37 0 % 8) 0 ≡ true → writeOf core s .bytes ≡ s
+  unchanged : of38 s ≡ true → ltb 4 (getD s 37 0 / 32) ≡ false → eqb (getD s 37 0 % 8) 0 ≡ true → writeOf core s .bytes ≡ s
   unchanged w b z =
       let r : readOf s ≡ record { refusal = 0; core = core } = rw (w, b, z) refl in
       let back : bytesOf (readOf s .core) ≡ s = bytes-back s h (ap (λ (x : SnapshotRead). x .refusal) r) in
@@ -227,7 +223,7 @@ refused-tick-calls-change-nothing s p m offer h =
     λ o. by-checks s (λ w. rw (o, w) (λ l. refl)) (λ w b. rw (o, w, b) (λ l. refl)) (λ w b z. rw (o, w, b, z) (λ l. refl))
     λ w b z. rw (called s h p m offer o w b z) (tick-refused w b z)
   where
-    tick-refused : whole s ≡ true → ltb 4 (getD s 37 0 / 32) ≡ false → eqb (getD s 37 0 % 8) 0 ≡ true → number s h p m offer < 16
+    tick-refused : of38 s ≡ true → ltb 4 (getD s 37 0 / 32) ≡ false → eqb (getD s 37 0 % 8) 0 ≡ true → number s h p m offer < 16
         → told (number s h p m offer) (writeOf (tickOf (coreOf s) p m (offerOf offer) .core) s .bytes) (tickOf (coreOf s) p m (offerOf offer) .bytes)
         ≡ told (number s h p m offer) s m
     tick-refused w b z l =

@@ -10,20 +10,19 @@ use lib.Dec.{eqb, ltb, leb}
 use lib.ListN.{length}
 use Rattle.basis.specs.Pick.{pick}
 use Rattle.basis.specs.Bit.{one, bit, up, down}
-use Rattle.basis.proofs.Choice.{same, test}
-use Rattle.instruction.specs.Fields.{twoWords}
+use Rattle.basis.proofs.Choice.{test}
+use Rattle.instruction.specs.Code.{twoWords}
 use Rattle.instruction.specs.Decode.{decodeOf}
 use Rattle.instruction.specs.declared.Instruction.{Instruction}
 use Rattle.instruction.specs.declared.Instruction.the-variants.{ADC, ADD, ADIW, AND, ANDI, ASR, BCLR, BLD, BRBC, BRBS, BREAK, BSET, BST, CALL, CBI, COM, CP, CPC, CPI, CPSE, DEC, EOR, FMUL, FMULS, FMULSU, ICALL, IJMP, IN, INC, JMP, LDX, LDXinc, LDXdec, LDYinc, LDYdec, LDZinc, LDZdec, LDDY, LDDZ, LDI, LDS, LPM, LPMZ, LPMZinc, LSL, LSR, MOV, MOVW, MUL, MULS, MULSU, NEG, NOP, OR, ORI, OUT, POP, PUSH, RCALL, RET, RETI, RJMP, ROR, SBC, SBCI, SBI, SBIC, SBIS, SBIW, SBRC, SBRS, SLEEP, STX, STXdec, STXinc, STYdec, STYinc, STZdec, STZinc, STDY, STDZ, STS, SUB, SUBI, SWAP, WDR, UNDEF}
-use Rattle.instruction.proofs.Tests.{each}
 use Rattle.memory.specs.Memory.{hasOf, hasWordOf}
 use Rattle.cores.specs.declared.Core.{Core}
 use Rattle.cores.specs.State.{reg, word, withPc, withInhibit}
-use Rattle.cores.specs.Flow.{dataBitIs}
+use Rattle.cores.specs.Flow.{dataBitIs, opAt}
 use Rattle.cores.specs.Transfer.{reachOf, pointedOf}
 use Rattle.execute.specs.Needs.{Needs, needs, fetched, withFetch}
 use Rattle.tick.proofs.Steps.{onward}
-use Rattle.table.specs.Steps.{opAt, usesSecond, hasAll, unlessMapped}
+use Rattle.table.specs.Steps.{hasAll, unlessMapped}
 use Rattle.table.specs.Table.{outsideProgram, pastTheTop, offTheStack, outsideData}
 
 -- ---- tests
@@ -71,9 +70,6 @@ over {pc} h false =
     λ e. let z = eqb-false pc 65534 e in
     test (eqb pc 65533) (λ f. rw (e, f) (lt-ltb (pc + 1 + 0) 65535 (omega arith))) λ f. rw (e, f) (lt-ltb (pc + 1 + 0) 65535 (omega arith))
 
-two-told : (op : Instruction) → twoWords op ≡ usesSecond op
-two-told op = same _ _ (each (λ i. Bool·beq (twoWords i) (usesSecond i)) (λ a b. tt) tt op)
-
 -- ---- 3: SP
 pub push-stack : (sp : ℕ) → leb 2 sp ≡ not (ltb sp 2 || false)
 push-stack sp = test (ltb sp 2) (λ e. rw e (lt-leb 2 sp (ltb-true sp 2 e))) λ e. rw e (le-leb 2 sp (ltb-false sp 2 e))
@@ -120,9 +116,9 @@ lacking k p m op =
     record { program = not (outsideProgram k p m op); room = not (pastTheTop k p m op); stack = not (offTheStack k op); bytes = not (outsideData k m op) }
 
 module _ (k : Core) (p m : List ℕ) (low : k .pc < 65535) where
-  skip-room : (t : Bool) → pick t (ltb (k .pc + 1 + one (twoWords (opAt p (k .pc + 1)))) 65535) true
-      ≡ not (t && (eqb (k .pc) 65534 || eqb (k .pc) 65533 && usesSecond (opAt p (k .pc + 1))))
-  skip-room true = rw (← two-told (opAt p (k .pc + 1))) (over low (twoWords (opAt p (k .pc + 1))))
+  skip-room : (t : Bool) → pick t (ltb (k .pc + 1 + one (twoWords (opAt decodeOf p (k .pc + 1)))) 65535) true
+      ≡ not (t && (eqb (k .pc) 65534 || eqb (k .pc) 65533 && twoWords (opAt decodeOf p (k .pc + 1))))
+  skip-room true = over low (twoWords (opAt decodeOf p (k .pc + 1)))
   skip-room false = refl
 
   abbrev here : Bool

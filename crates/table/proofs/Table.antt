@@ -18,6 +18,7 @@ use Rattle.instruction.specs.declared.Instruction.the-variants.{BREAK, SLEEP, U
 use Rattle.instruction.proofs.Tests.{each}
 use Rattle.cores.specs.declared.Core.{Core}
 use Rattle.cores.specs.State.{flag, withInhibit}
+use Rattle.cores.specs.Flow.{opAt}
 use Rattle.execute.specs.declared.Done.{Done}
 use Rattle.execute.specs.declared.Done.the-variants as done
 use Rattle.execute.specs.Needs.{refusal, pushNeeds}
@@ -26,8 +27,8 @@ use Rattle.tick.specs.declared.Offer.{Offer}
 use Rattle.tick.specs.declared.Offer.the-variants.{Vector, Nothing}
 use Rattle.tick.specs.Tick.{numberOf, due, stepped, entersOrSteps, ticked, tickOf}
 use Rattle.tick.proofs.Steps.{onward, stepNeeds, performed}
-use Rattle.table.specs.Steps.{offered, enters, opAt, hasAll, pushed}
-use Rattle.table.specs.Table.{outsideProgram, pastTheTop, offTheStack, outsideData, rows, ExactlyWhen, holding, AnswersByTheTable}
+use Rattle.table.specs.Steps.{offered, enters, hasAll, pushed}
+use Rattle.table.specs.Table.{outsideProgram, pastTheTop, offTheStack, outsideData, rows, ExactlyWhen, holding, Given, AnswersByTheTable}
 use Rattle.table.proofs.Needs.{push-stack, pushed-in, needs-told, lacking}
 
 -- ---- the statement as a test
@@ -130,7 +131,7 @@ module _ (k : Core) (p m : List ℕ) (o : Offer) where
     -- an instruction, which may lack four things and is then done in one of five ways
     module _ (d : due k o ≡ Nothing) (e : enters k o ≡ false) (h : k .pc < 65535) where
       abbrev op : Instruction
-      op = opAt p (k .pc)
+      op = opAt decodeOf p (k .pc)
 
       abbrev how : Done
       how = performed decodeOf k p m .done
@@ -180,9 +181,8 @@ module _ (k : Core) (p m : List ℕ) (o : Offer) where
       λ d e. test (eqb (k .pc) 65535) (λ t. ending z d (rw (calm z) e) (eqb-true (k .pc) 65535 t))
       λ t. let n = eqb-false (k .pc) 65535 t in stepping z d (rw (calm z) e) (omega arith)
 
+pub shown : (a : ℕ) (l : List (ℕ × Bool)) → Fits a l → Given a l
+shown a l t = (exactly a l (both-left (fits a l) (eqb (holding l) 1) t), eqb→eq (holding l) 1 (both-right (fits a l) (eqb (holding l) 1) t))
+
 pub answers-by-the-table : AnswersByTheTable
-answers-by-the-table k p m o h =
-    let a = numberOf (tickOf k p m o .answer) in
-    let l = rows k p m o in
-    let t = fits-the-table k p m o h in
-    (exactly a l (both-left (fits a l) (eqb (holding l) 1) t), eqb→eq (holding l) 1 (both-right (fits a l) (eqb (holding l) 1) t))
+answers-by-the-table k p m o h = shown (numberOf (tickOf k p m o .answer)) (rows k p m o) (fits-the-table k p m o h)

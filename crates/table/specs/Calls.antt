@@ -13,11 +13,7 @@ use Rattle.tick.specs.Tick.{Tick, numberOf, refuses, stops, tickOf}
 use Rattle.run.specs.Run.{Run, runOf}
 use Rattle.snapshot.specs.Snapshot.{coreOf, writeOf, readOf}
 use Rattle.host.specs.Host.{told, toldTicks, offerOf, avrTickOf, avrRunOf}
-use Rattle.table.specs.Table.{rows, ExactlyWhen, holding}
-
--- number a is given by these rows: exactly when, and by one of them and no more
-abbrev pub Given : ℕ → List (ℕ × Bool) → Type 0
-Given a l = ExactlyWhen a l × (holding l ≡ 1)
+use Rattle.table.specs.Table.{rows, ExactlyWhen, Given}
 
 -- ---- "6 refused: register number above 31 in read or set"; "a refused register read returns 0 with its number"
 abbrev pub registerRows : ℕ → List (ℕ × Bool)
@@ -30,24 +26,25 @@ RegistersByTheTable =
     × Given (setRegisterOf k r v .refusal) (registerRows r) × (setRegisterOf k r v .refusal ≡ 6 → setRegisterOf k r v .core ≡ k)
 
 -- ---- "Writing checks the output's length (7), then busy above 4 (5)."
-abbrev pub whole : List ℕ → Bool
-whole s = eqb (length s) 38
+-- of 38 bytes
+abbrev pub of38 : List ℕ → Bool
+of38 s = eqb (length s) 38
 
 abbrev pub writeRows : Core → List ℕ → List (ℕ × Bool)
-writeRows k s = (7, not (whole s)) ∷ (5, whole s && ltb 4 (k .busy)) ∷ (0, whole s && not (ltb 4 (k .busy))) ∷ []
+writeRows k s = (7, not (of38 s)) ∷ (5, of38 s && ltb 4 (k .busy)) ∷ (0, of38 s && not (ltb 4 (k .busy))) ∷ []
 
 abbrev pub WritesByTheTable : Type 0
 WritesByTheTable = (k : Core) (s : List ℕ) → Given (writeOf k s .refusal) (writeRows k s) × ((writeOf k s .refusal ≡ 0 → ⊥) → writeOf k s .bytes ≡ s)
 
 -- ---- "7, 8, 9 refused: snapshot not 38 bytes; busy field above 4; spare bits not zero", in that order
 abbrev pub lowBusy : List ℕ → Bool
-lowBusy s = whole s && not (ltb 4 (getD s 37 0 / 32))
+lowBusy s = of38 s && not (ltb 4 (getD s 37 0 / 32))
 
 abbrev pub readable : List ℕ → Bool
 readable s = lowBusy s && eqb (getD s 37 0 % 8) 0
 
 abbrev pub snapshotRows : List ℕ → List (ℕ × Bool)
-snapshotRows s = (7, not (whole s)) ∷ (8, whole s && ltb 4 (getD s 37 0 / 32)) ∷ (9, lowBusy s && not (eqb (getD s 37 0 % 8) 0)) ∷ []
+snapshotRows s = (7, not (of38 s)) ∷ (8, of38 s && ltb 4 (getD s 37 0 / 32)) ∷ (9, lowBusy s && not (eqb (getD s 37 0 % 8) 0)) ∷ []
 
 abbrev pub readRows : List ℕ → List (ℕ × Bool)
 readRows s = (0, readable s) ∷ snapshotRows s

@@ -6,10 +6,9 @@ use lib.Dec.{eqb, ltb}
 use Rattle.basis.specs.Pick.{pick}
 use Rattle.basis.specs.Bit.{bit, up, down}
 use Rattle.instruction.specs.Code.{code, oneOf}
-use Rattle.instruction.specs.Decode.{decodeOf}
 use Rattle.instruction.specs.declared.Instruction.{Instruction}
-use Rattle.instruction.specs.declared.Instruction.the-variants.{CALL, CBI, CPSE, ICALL, IN, JMP, LDX, LDXinc, LDXdec, LDYinc, LDYdec, LDZinc, LDZdec, LDDY, LDDZ, LDS, LPM, LPMZ, LPMZinc, OUT, POP, PUSH, RCALL, RET, RETI, SBI, SBIC, SBIS, SBRC, SBRS, STX, STXdec, STXinc, STYdec, STYinc, STZdec, STZinc, STDY, STDZ, STS}
-use Rattle.memory.specs.Memory.{hasOf, programWordOf}
+use Rattle.instruction.specs.declared.Instruction.the-variants.{CALL, CBI, CPSE, ICALL, IN, LDX, LDXinc, LDXdec, LDYinc, LDYdec, LDZinc, LDZdec, LDDY, LDDZ, LDS, LPM, LPMZ, LPMZinc, OUT, POP, PUSH, RCALL, RET, RETI, SBI, SBIC, SBIS, SBRC, SBRS, STX, STXdec, STXinc, STYdec, STYinc, STZdec, STZinc, STDY, STDZ, STS}
+use Rattle.memory.specs.Memory.{hasOf}
 use Rattle.cores.specs.declared.Core.{Core}
 use Rattle.cores.specs.State.{reg, word, flag}
 use Rattle.cores.specs.Flow.{dataBitIs}
@@ -45,9 +44,6 @@ ends k o = idle k && not (enters k o) && eqb (k .pc) 65535
 abbrev pub steps : Core → Offer → Bool
 steps k o = idle k && not (enters k o) && not (eqb (k .pc) 65535)
 
-abbrev pub opAt : List ℕ → ℕ → Instruction
-opAt p pc = decodeOf (programWordOf p pc) (programWordOf p (pc + 1))
-
 -- ---- what the instruction needs there
 abbrev is : Instruction → Instruction → Bool
 is form op = oneOf (form ∷ []) op
@@ -58,10 +54,6 @@ first op = code op .1
 
 abbrev second : Instruction → ℕ
 second op = code op .2
-
--- "a second word the instruction uses (CALL JMP LDS STS)"
-abbrev pub usesSecond : Instruction → Bool
-usesSecond op = oneOf (CALL 0 ∷ JMP 0 ∷ LDS 0 0 ∷ STS 0 0 ∷ []) op
 
 -- "an LPM byte": the byte at Z
 abbrev pub readsProgram : Instruction → Bool
@@ -99,7 +91,7 @@ named k op =
     (pick (is (STDZ 0 0) op) (unlessMapped (word k 30 + first op)) [])))))))))))))
 
 -- the data bytes that an instruction needs. "CBI, SBI, SBIC and SBIS name data bytes 0 to 31. Entry, calls, RET and RETI use the data bytes themselves":
--- the word pushed lies at SP and SP-1, the word popped at SP+1 and SP+2
+-- the word pushed lies at SP and SP-1 (with SP below 2 refusal 3 comes first), the word popped at SP+1 and SP+2
 abbrev pub pushed : Core → List ℕ
 pushed k = k .sp ∷ (k .sp - 1) ∷ []
 

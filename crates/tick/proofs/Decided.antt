@@ -7,13 +7,13 @@ use Prim.Native.Nat.{ℕ, _+_}
 use borrow.Author.Tests.{ne-eqb}
 use Rattle.basis.specs.Pick.{pick}
 use Rattle.instruction.specs.Decode.{decodeOf}
+use Rattle.cores.specs.Flow.{opAt}
 use Rattle.cores.specs.declared.Core.{Core}
 use Rattle.cores.specs.State.{withPc}
 use Rattle.execute.specs.Needs.{Needs, refusal, needs, fetched}
 use Rattle.execute.specs.Execute.{executed}
 use Rattle.tick.specs.Tick.{Tick, gives, decided, executedTick, stepped}
 use Rattle.tick.specs.declared.Answer.the-variants.{Refused}
-use Rattle.tick.proofs.Steps.{opAt}
 
 module _ (n : Needs) (k : Core) (m : List ℕ) (t : Tick) where
   pub granted : 0 ≡ refusal n → decided n k m t ≡ t

@@ -9,7 +9,7 @@ use borrow.Author.Tests.{ltb-true, ltb-false, eqb-true, eqb-false}
 use lib.Dec.{eqb, ltb}
 use Rattle.basis.proofs.Choice.{cases, either}
 use Rattle.instruction.specs.declared.Instruction.{Instruction}
-use Rattle.memory.specs.Memory.{programWordOf}
+use Rattle.cores.specs.Flow.{opAt}
 use Rattle.cores.specs.declared.Core.{Core}
 use Rattle.cores.specs.State.{flag, withPc, withBusy, withInhibit}
 use Rattle.execute.specs.declared.Done.{Done}
@@ -53,15 +53,12 @@ abbrev pub onward : Core → Core
 onward k = withPc (withInhibit k false) (k .pc + 1)
 
 module _ (decode : ℕ → ℕ → Instruction) where
-  -- the instruction at a PC, what its step needs, and what it gives
-  abbrev pub opAt : List ℕ → ℕ → Instruction
-  opAt p pc = decode (programWordOf p pc) (programWordOf p (pc + 1))
-
+  -- what the step of the instruction at PC needs, and what it gives
   abbrev pub stepNeeds : Core → List ℕ → List ℕ → Needs
-  stepNeeds k p m = let op = opAt p (k .pc) in withFetch (fetched p (k .pc) op) (needs decode (onward k) op p m)
+  stepNeeds k p m = let op = opAt decode p (k .pc) in withFetch (fetched p (k .pc) op) (needs decode (onward k) op p m)
 
   abbrev pub performed : Core → List ℕ → List ℕ → Executed
-  performed k p m = executed decode (onward k) (opAt p (k .pc)) p m
+  performed k p m = executed decode (onward k) (opAt decode p (k .pc)) p m
 
   module _ (P : Tick → Type 0) (k : Core) (p m : List ℕ) (o : Offer) where
     pub every-tick :

@@ -7,10 +7,9 @@ use lib.Dec.{eqb, ltb}
 use Rattle.basis.specs.Pick.{pick}
 use Rattle.instruction.specs.Decode.{decodeOf}
 use Rattle.instruction.specs.declared.Instruction.{Instruction}
-use Rattle.memory.specs.Memory.{programWordOf}
 use Rattle.cores.specs.declared.Core.{Core}
 use Rattle.cores.specs.State.{Out, out, withPc, withBusy, withInhibit, withService, flag}
-use Rattle.cores.specs.Flow.{wordPushed}
+use Rattle.cores.specs.Flow.{wordPushed, opAt}
 use Rattle.execute.specs.Needs.{Needs, refusal, pushNeeds, needs, fetched, withFetch}
 use Rattle.execute.specs.Execute.{Executed, executed}
 use Rattle.execute.specs.declared.Done.{Done}
@@ -106,7 +105,7 @@ module _ (decode : ℕ → ℕ → Instruction) where
   -- step 5: "Fetch, decode, add 1 to PC, execute." j is k with inhibit clear; k is handed back where the step is refused
   unfoldable pub stepped : Core → Core → List ℕ → List ℕ → Tick
   stepped k j p m =
-      let op = decode (programWordOf p (j .pc)) (programWordOf p (j .pc + 1)) in
+      let op = opAt decode p (j .pc) in
       let i = withPc j (j .pc + 1) in
       let n = withFetch (fetched p (j .pc) op) (needs decode i op p m) in
       decided n k m (executedTick (executed decode i op p m))

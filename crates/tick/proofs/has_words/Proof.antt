@@ -1,7 +1,7 @@
 -- `has_words`: the second word is asked for where there is one.
 -- Assumes nothing.
 use Prim.Native.Nat.{_+_}
-use Rattle.instruction.specs.Fields.{twoWords}
+use Rattle.instruction.specs.Code.{twoWords}
 use Rattle.memory.specs.Memory.{hasWordOf}
 use borrow.Author.Needs.{needs}
 use Rattle.tick.proofs.Decided.{unless-not}

@@ -5,11 +5,11 @@ use mathlib.Core.Bool.{true, false}
 use borrow.Author.Tests.{not-true, not-false}
 use borrow.Author.Needs.{needs}
 use Rattle.instruction.specs.Decode.{decodeOf}
+use Rattle.cores.specs.Flow.{opAt}
 use Rattle.cores.specs.State.{withPc}
 use Rattle.execute.specs.Needs.{fetched}
 use Rattle.tick.specs.Tick.{answerOf}
 use Rattle.tick.proofs.Decided.{step-unfetched, step-denied, step-granted}
-use Rattle.tick.proofs.Steps.{opAt}
 use Rattle.tick.proofs.step.Statement.{statement}
 use Rattle.tick.proofs.step.Tie as tie
 
