@@ -1,6 +1,5 @@
 // The arithmetic inside the handlers, on plain bytes and words: the result, and the flags that it says. No core.
 ghost use mathlib.Core.Path.{_≡_};
-ghost use Rattle.basis.specs.Bit.{bit, put};
 ghost use Rattle.alu.specs.Alu.{plusOf, minusOf, halvedOf, plusWordOf, minusWordOf, signedOf, productOf, doubledOf};
 
 // A sum or a difference of two bytes.
@@ -17,36 +16,17 @@ pub struct WordSum {
     pub carry: bool,
 }
 
-// Bit b of x; a bit number counts modulo 8.
-pub fn bit(x: u8, b: u8) -> bool
-    ensures { λ r. ⌜ r ≡ bit x b ⌝ }
-{
-    (x >> (b % 8)) % 2 == 1
-}
-
-// x with bit b made so.
-pub fn with_bit(x: u8, b: u8, on: bool) -> u8
-    ensures { λ r. ⌜ r ≡ put x b on ⌝ }
-{
-    if on {
-        x | (1u8 << (b % 8))
-    } else {
-        x & !(1u8 << (b % 8))
-    }
-}
-
 // a + b + c.
 pub fn plus(a: u8, b: u8, c: bool) -> Sum
     ensures { λ r. ⌜ r ≡ plusOf a b c ⌝ }
 {
-    let sum = a as u16 + b as u16 + c as u16;
-    let value = (sum % 256) as u8;
+    let value = std::num::wrapping_add_u8(std::num::wrapping_add_u8(a, b), c as u8);
     let n_a = a >= 128;
     let n_b = b >= 128;
     let n = value >= 128;
     Sum {
         value,
-        carry: sum >= 256,
+        carry: a as u16 + b as u16 + c as u16 >= 256,
         half: a % 16 + b % 16 + c as u8 >= 16,
         overflow: (n_a == n_b) & (n_a != n),
     }
@@ -56,14 +36,13 @@ pub fn plus(a: u8, b: u8, c: bool) -> Sum
 pub fn minus(a: u8, b: u8, c: bool) -> Sum
     ensures { λ r. ⌜ r ≡ minusOf a b c ⌝ }
 {
-    let taken = b as u16 + c as u16;
-    let value = ((a as u16 + 512 - taken) % 256) as u8;
+    let value = std::num::wrapping_sub_u8(std::num::wrapping_sub_u8(a, b), c as u8);
     let n_a = a >= 128;
     let n_b = b >= 128;
     let n = value >= 128;
     Sum {
         value,
-        carry: (a as u16) < taken,
+        carry: (a as u16) < b as u16 + c as u16,
         half: a % 16 < b % 16 + c as u8,
         overflow: (n_a != n_b) & (n_a != n),
     }
@@ -80,10 +59,9 @@ pub fn halved(a: u8, top: bool) -> u8
 pub fn plus_word(a: u16, n: u8) -> WordSum
     ensures { λ r. ⌜ r ≡ plusWordOf a n ⌝ }
 {
-    let sum = a as u32 + n as u32;
     WordSum {
-        value: (sum % 65536) as u16,
-        carry: sum >= 65536,
+        value: std::num::wrapping_add_u16(a, n as u16),
+        carry: a as u32 + n as u32 >= 65536,
     }
 }
 
@@ -92,7 +70,7 @@ pub fn minus_word(a: u16, n: u8) -> WordSum
     ensures { λ r. ⌜ r ≡ minusWordOf a n ⌝ }
 {
     WordSum {
-        value: ((a as u32 + 65536 - n as u32) % 65536) as u16,
+        value: std::num::wrapping_sub_u16(a, n as u16),
         carry: a < n as u16,
     }
 }

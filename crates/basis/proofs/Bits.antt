@@ -18,6 +18,10 @@ pub put-mod : (x b : ℕ) (on : Bool) → put x (b % 8) on ≡ put x b on
 unfolding put
 put-mod x b on = let e : b % 8 % 8 ≡ b % 8 = omega arith in rw e
 
+-- a mask of one bit is a power of 2
+pub mask-is : (b : ℕ) → b < 8 → 1 * 2 ^ b % 256 ≡ 2 ^ b
+mask-is b h = agreed 8 1 (λ b x. 1 * 2 ^ b % 256) (λ b x. 2 ^ b) tt b 0 h (omega arith)
+
 pub or-put : (x b : ℕ) → x < 256 → b < 8 → bitOr x (1 * 2 ^ b % 256) ≡ put x b true
 unfolding put
 or-put = agreed 256 8 (λ x b. bitOr x (1 * 2 ^ b % 256)) (λ x b. put x b true) tt

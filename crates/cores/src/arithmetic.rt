@@ -210,7 +210,7 @@ impl Core {
         // Rd <- ~Rd + 1
         let Rd = self.get_register(d);
         let R = std::num::wrapping_sub_u8(0, Rd);
-        let H = alu::bit(R, 3) | alu::bit(Rd, 3);
+        let H = basis::bit(R, 3) | basis::bit(Rd, 3);
         self.put_register(d, R)
             .set_cznvsh(R != 0, R == 0, R >= 128, R == 0x80, H)
     }

@@ -13,7 +13,7 @@ impl Core {
     {
         let Rd = self.get_register(d);
         let R = alu::halved(Rd, top);
-        let C = alu::bit(Rd, 0);
+        let C = basis::bit(Rd, 0);
         let N = R >= 128;
         self.put_register(d, R).set_cznvs(C, R == 0, N, N != C)
     }
@@ -35,7 +35,7 @@ impl Core {
         ensures { λ k. ⌜ k ≡ bldOf self d b ⌝ }
     {
         let T = self.get_sreg_bit(Core::T);
-        self.put_register(d, alu::with_bit(self.get_register(d), b, T))
+        self.put_register(d, basis::with_bit(self.get_register(d), b, T))
     }
 
     pub fn bset(self, b: u8) -> Core
@@ -47,7 +47,7 @@ impl Core {
     pub fn bst(self, d: u8, bit: u8) -> Core
         ensures { λ k. ⌜ k ≡ bstOf self d bit ⌝ }
     {
-        self.set_sreg_bit(Core::T, alu::bit(self.get_register(d), bit))
+        self.set_sreg_bit(Core::T, basis::bit(self.get_register(d), bit))
     }
 
     // A is below 32, so the Rust's cases for SREG and SP are never reached.

@@ -202,14 +202,14 @@ impl Core {
         ensures { λ j. ⌜ j ≡ sbixOf decodeOf self A b set (now (program .entry)) (now («data» .entry)) ⌝ }
     {
         let there = memory::has(data, A as usize);
-        let bitval = alu::bit(memory::read(data, A as usize), b);
+        let bitval = basis::bit(memory::read(data, A as usize), b);
         self.skip(there & (bitval == set), program)
     }
 
     pub fn sbrx(self, r: u8, b: u8, set: bool, program: &[u8]) -> Core
         ensures { λ j. ⌜ j ≡ sbrxOf decodeOf self r b set (now (program .entry)) ⌝ }
     {
-        let bitval = alu::bit(self.get_register(r), b);
+        let bitval = basis::bit(self.get_register(r), b);
         self.skip(bitval == set, program)
     }
 }

@@ -148,13 +148,13 @@ impl Core {
     pub fn get_sreg_bit(self, bit: u8) -> bool
         ensures { λ r. ⌜ r ≡ flag self bit ⌝ }
     {
-        alu::bit(self.sreg, bit)
+        basis::bit(self.sreg, bit)
     }
 
     pub fn set_sreg_bit(mut self, bit: u8, set: bool) -> Core
         ensures { λ k. ⌜ k ≡ withSreg self (put (self .sreg) bit set) ⌝ }
     {
-        self.sreg = alu::with_bit(self.sreg, bit, set);
+        self.sreg = basis::with_bit(self.sreg, bit, set);
         self
     }
 

@@ -163,14 +163,14 @@ fn sbix_refusal(core: Core, A: u8, b: u8, set: bool, program: &[u8], data: &[u8]
     ensures { λ n. ⌜ n ≡ refusal (skipNeeds decodeOf core (dataBitIs (now («data» .entry)) A b set) (now (program .entry)) (hasOf (now («data» .entry)) A)) ⌝ }
 {
     let there = memory::has(data, A as usize);
-    let bitval = alu::bit(memory::read(data, A as usize), b);
+    let bitval = basis::bit(memory::read(data, A as usize), b);
     skip_refusal(core, there & (bitval == set), program, there)
 }
 
 fn sbrx_refusal(core: Core, r: u8, b: u8, set: bool, program: &[u8]) -> u8
     ensures { λ n. ⌜ n ≡ refusal (skipNeeds decodeOf core (Bool·beq (bit (reg core r) b) set) (now (program .entry)) true) ⌝ }
 {
-    let bitval = alu::bit(core.get_register(r), b);
+    let bitval = basis::bit(core.get_register(r), b);
     skip_refusal(core, bitval == set, program, true)
 }
 

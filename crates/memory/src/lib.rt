@@ -59,5 +59,5 @@ pub fn set_bit(bytes: &mut [u8], address: usize, bit: u8, state: bool)
     ensures { λ _. ⌜ now (bytes .exit) ≡ bitSetOf (now (bytes .entry)) address bit state ⌝ }
 {
     let val = read(bytes, address);
-    write(bytes, address, alu::with_bit(val, bit, state));
+    write(bytes, address, basis::with_bit(val, bit, state));
 }

@@ -3,9 +3,9 @@
 use Prim.Native.Nat.{_%_}
 use native.Mathlib.Omega.{arith}
 use borrow.Author.Needs.{needs}
 use Rattle.basis.proofs.Bits.{or-put, and-put, put-mod}
-use Rattle.alu.proofs.with_bit.Statement.{statement}
-use Rattle.alu.proofs.with_bit.Tie as tie
+use Rattle.basis.proofs.with_bit.Statement.{statement}
+use Rattle.basis.proofs.with_bit.Tie as tie
 
 pub with-bit-spec : {M : Type 1} → statement M
 with-bit-spec =
