@@ -1,12 +1,11 @@
 -- The laws of specs/Ticks.antt, each by the branches of a tick.
 -- Assumes nothing.
-use mathlib.Core.Path.{_≡_, refl, sym, ap, subst, _∙_}
+use mathlib.Core.Path.{_≡_, refl, ap, subst}
 use mathlib.Core.Logic.{inl, inr}
 use mathlib.Core.Bool.{true, false}
 use mathlib.Core.List.{List}
 use Prim.Native.Nat.{ℕ, _+_, _-_, _≤_, _<_}
 use native.Mathlib.Omega.{arith}
-use Rattle.basis.proofs.Choice.{clash}
 use Rattle.instruction.specs.Decode.{decodeOf}
 use Rattle.instruction.specs.Fields.{InFields}
 use Rattle.instruction.specs.declared.Instruction.{Instruction}
@@ -20,9 +19,7 @@ use Rattle.execute.specs.declared.Done.{Done}
 use Rattle.execute.specs.declared.Done.the-variants as done
 use Rattle.tick.specs.Tick.{numberOf, refuses, answerOf, due, entry}
 use Rattle.tick.specs.declared.Offer.{Offer}
-use Rattle.tick.specs.declared.Answer.{Answer}
-use Rattle.tick.specs.declared.Answer.the-variants.{Refused, Waited, Entered, End}
-use Rattle.tick.proofs.Steps.{every-due, onward, performed, every-tick, done-refuses-not}
+use Rattle.tick.proofs.Steps.{every-due, onward, performed, every-tick, refused-keeps}
 use Rattle.invariants.specs.Instructions.{ByteOperand, InRange}
 use Rattle.invariants.specs.Ticks.{Offered, TickNumber, TicksStayInRange, RefusedTicksChangeNothing, TicksAnswerTickNumbers, Brief, TicksLeaveBusyAtMost4}
 use Rattle.invariants.proofs.Fits.{fits-of, sound-of, fits-pc, fits-busy, fits-inhibit, fits-service}
@@ -84,17 +81,8 @@ ticks-stay-in-range k p m o s bp bm h =
     λ z e l n. instructions-stay-in-range decodeOf op (onward k) p m (byte-operand op fields) (onward-in-range k s l) bp bm
 
 -- ---- refusals
-never : {A : Type 0} (a : Answer) (n : ℕ) → refuses a ≡ false → a ≡ Refused n → A
-never a n h e = clash (sym (ap refuses e) ∙ h)
-
 pub refused-ticks-change-nothing : RefusedTicksChangeNothing
-refused-ticks-change-nothing k p m o n =
-    every-tick decodeOf (λ t. t .answer ≡ Refused n → (t .core ≡ k) × (t .bytes ≡ m)) k p m o
-    (λ r g l e. (refl, refl))
-    (λ g l. never Waited n refl)
-    (λ z v d l. never Entered n refl)
-    (λ z d l. never End n refl)
-    λ z d l r. never _ n (done-refuses-not (performed decodeOf k p m .done))
+refused-ticks-change-nothing k p m o n e = refused-keeps k p m o (ap refuses e)
 
 -- ---- numbers
 pub done-number : (d : Done) → (18 ≤ numberOf (answerOf d)) × (numberOf (answerOf d) ≤ 22)

@@ -2,9 +2,11 @@
 -- Assumes nothing.
 use Rattle.invariants.proofs.Ticks.{ticks-stay-in-range, refused-ticks-change-nothing, ticks-leave-busy-at-most-4}
 use Rattle.run.proofs.Larger.{same-under-larger-budget}
+use Rattle.run.proofs.Ticks.{runs-are-ticks}
 use Rattle.snapshot.proofs.RoundTrips.{reading-undoes-writing, writing-undoes-reading}
 use Rattle.table.proofs.Table.{answers-by-the-table}
-use Rattle.table.proofs.Calls.{registers-by-the-table, writes-by-the-table, reads-by-the-table, runs-by-the-table, runs-are-ticks, tick-calls-by-the-table, refused-tick-calls-change-nothing, run-calls-by-the-table}
+use Rattle.table.proofs.Calls.{registers-by-the-table, writes-by-the-table, reads-by-the-table, runs-by-the-table}
+use Rattle.table.proofs.HostCalls.{tick-calls-by-the-table, refused-tick-calls-change-nothing, run-calls-by-the-table}
 use Rattle.source_decode.proofs.Decodes.{decodes-as-the-rust}
 use Rattle.source.proofs.Source.{equals-the-rust, refused-exactly-where-it-panics, code-equals-the-rust, in-place-equals-the-rust}
 use Rattle.manual_opcodes.proofs.Decodes.{decodes-as-the-manual}

@@ -1,5 +1,5 @@
 -- Demand 3. `Lockstep`, `Handled`, `Arrival`: for any machine. `Instructions`, `Ticks`, `Stack`, `TickLaws`: the laws of `tickOf`. `Interrupts`: the demand.
--- `OneHandler`, `Stamps`: the worked runs. Demand 1: `BenchSheet`, 01's thirteen lines; `OneOutcome`. `Demands`: all three.
+-- `OneHandler`, `Stamps`: the worked runs. Demand 1: `BenchSheet`, 01's thirteen lines; `OneOutcome`. `Demands`: all three. `Claims`: what else is claimed.
 pub mod Logic
 pub mod Lockstep
 pub mod Handled
@@ -14,3 +14,4 @@ pub mod Stamps
 pub mod BenchSheet
 pub mod OneOutcome
 pub mod Demands
+pub mod Claims

@@ -1,9 +1,10 @@
--- THE THREE DEMANDS, each in the words of those who asked for it. A line names a statement; the comment above it names the file where that stands.
+-- THE THREE DEMANDS, each whole, in the words of the person who asked for it (shared/DEMANDS.md). A line names a statement; the comment above it names the file
+-- where that stands. `Claims` beside this file has what else is claimed.
 use Rattle.invariants.specs.Ticks.{TicksStayInRange, RefusedTicksChangeNothing, TicksLeaveBusyAtMost4}
-use Rattle.run.specs.Run.{SameUnderLargerBudget}
+use Rattle.run.specs.Run.{RunsAreTicks, SameUnderLargerBudget}
 use Rattle.snapshot.specs.Snapshot.{ReadingUndoesWriting, WritingUndoesReading}
 use Rattle.table.specs.Table.{AnswersByTheTable}
-use Rattle.table.specs.Calls.{RegistersByTheTable, WritesByTheTable, ReadsByTheTable, RunsByTheTable, RunsAreTicks, TickCallsByTheTable, RefusedTickCallsChangeNothing, RunCallsByTheTable}
+use Rattle.table.specs.Calls.{RegistersByTheTable, WritesByTheTable, ReadsByTheTable, RunsByTheTable, TickCallsByTheTable, RefusedTickCallsChangeNothing, RunCallsByTheTable}
 use Rattle.source_decode.specs.RustDecode.{DecodesAsTheRust}
 use Rattle.source.specs.Statement.{EqualsTheRust, RefusedExactlyWhereItPanics, CodeEqualsTheRust, InPlaceEqualsTheRust}
 use Rattle.manual_opcodes.specs.Opcodes.{DecodesAsTheManual}
@@ -14,7 +15,7 @@ use Rattle.promises.specs.BenchSheet.{BenchSheet}
 use Rattle.promises.specs.Interrupts.{InterruptsLeaveNoTrace, NoTraceAtTheEnd, ThreeWaitsAfterReti}
 use Rattle.promises.specs.Stamps.{StampsInOrder, FlagLost}
 
--- 1. "Every core, program, data and offer gets one answer from document 01; a refused tick is named and changes neither core nor data."
+-- 1. "Every core, program, data memory and vector offer gets one answer from 01. A refused tick is named and changes neither core nor data."
 pub record Demand1 : Type 1 where
   -- crates/table/specs/Table.antt: the answer is a number of 01's table exactly when its row's condition holds; one row holds
   pub tick : AnswersByTheTable
@@ -38,8 +39,8 @@ pub record Demand1 : Type 1 where
   -- BenchSheet.antt: 01's thirteen lines
   pub bench-sheet : BenchSheet
 
--- 2. "Each tick equals the Rust wherever a debug build would not panic, and equals the AVR Instruction Set Manual, listed differences apart.
--- A run equals ticks one after another, its count included."
+-- 2. "Each tick from a core with busy at most 4 equals the Rust over 01's flat memories wherever a debug build of it would not panic, and equals a definition written
+-- from the AVR Instruction Set Manual, the listed differences apart. A run equals such ticks one after another, as 01 defines it, its count included."
 pub record Demand2 : Type 0 where
   -- crates/source_decode/specs/RustDecode.antt, crates/source/specs/Statement.antt
   pub rust-decode : DecodesAsTheRust
@@ -63,12 +64,14 @@ pub record Demand2 : Type 0 where
   pub pointers : PointersAlone
   -- crates/manual/specs/Witnesses.antt
   pub witnesses : Witnesses
-  -- crates/table/specs/Calls.antt, crates/run/specs/Run.antt
+  -- crates/run/specs/Run.antt
   pub run : RunsAreTicks
   pub larger-budget : SameUnderLargerBudget
 
--- 3. "A stretch of register-only instructions ends with the same registers, SREG, SP and PC with interrupts anywhere in it as with none; it takes exactly
--- the handlers' ticks more, and only handlers and entries write data."
+-- 3. "Take consecutive instructions from 01's register-only list, ending at or below PC 65,535, from a core neither busy nor in service. Run them with no vector
+-- offered, and again with vectors offered at any ticks. If no tick refuses or stops, and each handler reaches its first RETI with registers and SREG as before its
+-- entry, SP two lower and its return bytes intact, then on first reaching the end, not busy and not in service, both runs hold the same registers, SREG, SP and PC.
+-- The second took exactly the handlers' ticks more, and only handlers and entries wrote data."
 pub record Demand3 : Type 0 where
   -- Interrupts.antt
   pub no-trace : InterruptsLeaveNoTrace

@@ -1,6 +1,7 @@
--- What is promised. `Demands` names the three demands. Of demand 1: `OneOutcome`, and `BenchSheet`, 01's thirteen lines.
+-- What is promised. `Demands` names the three demands, `Claims` what else README claims. Of demand 1: `OneOutcome`, and `BenchSheet`, 01's thirteen lines.
 -- Of demand 3: `RegisterOnly` tells the kinds of instruction apart, `Handlers` says which ticks are a handler's, `Interrupts` states the demand, `Stamps` has a
--- run that meets it and one that does not; `Machine` has the laws that it is proved from.
+-- run that meets it and one that does not.
+-- NOBODY HAS TO BELIEVE `Machine`: it has the laws that demand 3 is proved from, for any machine, and `Interrupts` says all that is promised of this one.
 pub mod RegisterOnly
 pub mod Handlers
 pub mod Interrupts
@@ -9,3 +10,4 @@ pub mod BenchSheet
 pub mod OneOutcome
 pub mod Machine
 pub mod Demands
+pub mod Claims

@@ -3,7 +3,7 @@ use cores::Core;
 use tick::Answer;
 use tick::Offer;
 ghost use mathlib.Core.Path.{_≡_};
-ghost use Rattle.tick.specs.Tick.{numberOf, refuses, stops};
+ghost use Rattle.tick.specs.Tick.{numberOf};
 ghost use Rattle.run.specs.Run.{runOf, Runs};
 
 // The answer is 24, 22, 23 or the refusal, by 01's numbers; `ticks` counts the ticks done.
@@ -15,38 +15,6 @@ pub struct Ran {
 
 const BUDGET: u8 = 24;
 
-pub fn refuses(answer: Answer) -> bool
-    ensures { λ r. ⌜ r ≡ refuses answer ⌝ }
-{
-    match answer {
-        Answer::Refused(_) => true,
-        Answer::Waited => false,
-        Answer::Entered => false,
-        Answer::Ran => false,
-        Answer::Sleep => false,
-        Answer::Watchdog => false,
-        Answer::Undefined => false,
-        Answer::Break => false,
-        Answer::End => false,
-    }
-}
-
-pub fn stops(answer: Answer) -> bool
-    ensures { λ r. ⌜ r ≡ stops answer ⌝ }
-{
-    match answer {
-        Answer::Break => true,
-        Answer::End => true,
-        Answer::Refused(_) => false,
-        Answer::Waited => false,
-        Answer::Entered => false,
-        Answer::Ran => false,
-        Answer::Sleep => false,
-        Answer::Watchdog => false,
-        Answer::Undefined => false,
-    }
-}
-
 pub fn run(core: Core, program: &[u8], data: &mut [u8], offer: Offer, budget: u32) -> Ran
     ensures { λ r. ⌜ Runs (runOf budget core (now (program .entry)) (now («data» .entry)) offer) r (now («data» .exit)) ⌝ }
 {
@@ -57,10 +25,10 @@ pub fn run(core: Core, program: &[u8], data: &mut [u8], offer: Offer, budget: u3
         let answer = ticked.answer;
         let done = ticks + 1;
         last = ticked.core;
-        if refuses(answer) {
+        if tick::refuses(answer) {
             return ended(answer, ticks, last);
         }
-        if stops(answer) {
+        if tick::stops(answer) {
             return ended(answer, done, last);
         }
         ticks = done;

@@ -1,17 +1,18 @@
 -- 01's table at the functions around the tick: 6 of a register, 5 and 7 to 9 of a snapshot, 10 of the C interface, 24 of a run. 0 is no refusal.
+-- k is a core, s a snapshot or a buffer for one, p a program, m the bytes of data, o an offer; offer, budget and ticks are the numbers that a call takes.
 use mathlib.Core.Path.{_≡_}
-use mathlib.Core.Logic.{_⊎_, _↔_}
+use mathlib.Core.Logic.{_↔_}
 use mathlib.Core.Bool.{Bool, true, false, not, _&&_}
 use mathlib.Core.List.{List, [], _∷_, _++_}
-use Prim.Native.Nat.{ℕ, zero, suc, _/_, _%_, _<_}
+use Prim.Native.Nat.{ℕ, _/_, _%_, _≤_, _<_}
 use lib.Dec.{eqb, ltb}
 use lib.ListN.{getD, length}
 use Rattle.cores.specs.declared.Core.{Core}
 use Rattle.cores.specs.State.{Bytes, readRegisterOf, setRegisterOf}
 use Rattle.tick.specs.declared.Offer.{Offer}
-use Rattle.tick.specs.Tick.{Tick, numberOf, refuses, stops, tickOf}
-use Rattle.run.specs.Run.{Run, runOf}
-use Rattle.snapshot.specs.Snapshot.{coreOf, writeOf, readOf}
+use Rattle.tick.specs.Tick.{numberOf, tickOf}
+use Rattle.run.specs.Run.{runOf, goesOn}
+use Rattle.snapshot.specs.Snapshot.{bytesOf, coreOf, writeOf, readOf}
 use Rattle.host.specs.Host.{told, toldTicks, offerOf, avrTickOf, avrRunOf}
 use Rattle.table.specs.Table.{rows, ExactlyWhen, Given}
 
@@ -53,53 +54,10 @@ abbrev pub ReadsByTheTable : Type 0
 ReadsByTheTable = (s : List ℕ) → Given (readOf s .refusal) (readRows s)
 
 -- ---- "24 budget: a run did all its ticks, none of them break, end or refused"
-abbrev pub goesOn : ℕ → Core → List ℕ → List ℕ → Offer → Bool
-goesOn zero k p m o = true
-goesOn (suc budget) k p m o =
-    let t = tickOf k p m o in
-    not (refuses (t .answer)) && not (stops (t .answer)) && goesOn budget (t .core) p (t .bytes) o
-
 abbrev pub RunsByTheTable : Type 0
 RunsByTheTable =
     (budget : ℕ) (k : Core) (p m : List ℕ) (o : Offer)
     → (runOf budget k p m o .answer ≡ 24 ↔ goesOn budget k p m o ≡ true) × (runOf budget k p m o .answer ≡ 24 → runOf budget k p m o .count ≡ budget)
-
--- "A run equals ticks one after another, its count included" (demand 2): core and data after n ticks, and the tick behind them
-abbrev pub afterTicks : ℕ → Core → List ℕ → List ℕ → Offer → Core × List ℕ
-afterTicks zero k p m o = (k, m)
-afterTicks (suc n) k p m o = let t = tickOf k p m o in afterTicks n (t .core) p (t .bytes) o
-
-abbrev pub tickAfter : ℕ → Core → List ℕ → List ℕ → Offer → Tick
-tickAfter zero k p m o = tickOf k p m o
-tickAfter (suc n) k p m o = let t = tickOf k p m o in tickAfter n (t .core) p (t .bytes) o
-
--- run r of that budget did all its ticks, and none of them ends a run; or the tick behind its last was refused; or its last one was break or end
-module _ (budget : ℕ) (k : Core) (p m : List ℕ) (o : Offer) (r : Run) where
-  pub record Spent : Type 0 where
-    pub answer : r .answer ≡ 24
-    pub count : r .count ≡ budget
-    pub before : goesOn budget k p m o ≡ true
-
-  pub record RefusedNext : Type 0 where
-    pub in-budget : r .count < budget
-    pub before : goesOn (r .count) k p m o ≡ true
-    pub refused : refuses (tickAfter (r .count) k p m o .answer) ≡ true
-    pub answer : r .answer ≡ numberOf (tickAfter (r .count) k p m o .answer)
-
-  pub record StoppedLast : Type 0 where
-    pub others : ℕ
-    pub count : r .count ≡ suc others
-    pub in-budget : others < budget
-    pub before : goesOn others k p m o ≡ true
-    pub stopped : stops (tickAfter others k p m o .answer) ≡ true
-    pub answer : r .answer ≡ numberOf (tickAfter others k p m o .answer)
-
-abbrev pub RunsAreTicks : Type 0
-RunsAreTicks =
-    (budget : ℕ) (k : Core) (p m : List ℕ) (o : Offer)
-    → let r = runOf budget k p m o in
-    ((r .core, r .bytes) ≡ afterTicks (r .count) k p m o)
-    × (Spent budget k p m o r ⊎ (RefusedNext budget k p m o r ⊎ StoppedLast budget k p m o r))
 
 -- ---- "10 refused: C interface: offer above 65,536"; "checks in the order 10, 7, 8, 9, then the tick"
 -- rows that count only where g holds
@@ -125,3 +83,16 @@ RunCallsByTheTable =
     (s p m : List ℕ) (offer budget ticks : ℕ)
     → ExactlyWhen (avrRunOf s p m offer budget ticks .number) (checkRows s offer ((24, goesOn budget (coreOf s) p m (offerOf offer)) ∷ []))
     × ((not (ltb 65536 offer) && readable s) ≡ false → avrRunOf s p m offer budget ticks ≡ toldTicks (avrRunOf s p m offer budget ticks .number) s m ticks)
+
+-- ---- "The next core is written into the same snapshot": where the call is not refused, the snapshot afterwards is the next core's 38 bytes
+abbrev pub TickCallsWriteTheNextCore : Type 0
+TickCallsWriteTheNextCore =
+    (s p m : List ℕ) (offer : ℕ) → 16 ≤ avrTickOf s p m offer .number
+    → let t = tickOf (coreOf s) p m (offerOf offer) in avrTickOf s p m offer ≡ told (numberOf (t .answer)) (bytesOf (t .core)) (t .bytes)
+
+-- of the run: where every check passes, whatever the run answers
+abbrev pub RunCallsWriteTheLastCore : Type 0
+RunCallsWriteTheLastCore =
+    (s p m : List ℕ) (offer budget ticks : ℕ) → (not (ltb 65536 offer) && readable s) ≡ true
+    → let r = runOf budget (coreOf s) p m (offerOf offer) in
+    avrRunOf s p m offer budget ticks ≡ toldTicks (r .answer) (bytesOf (r .core)) (r .bytes) (r .count)

@@ -1,13 +1,14 @@
 -- The tick by its branches, with any decoder: what holds of each, where its tests are so, holds of every tick.
 -- Assumes nothing.
-use mathlib.Core.Path.{_≡_, refl}
-use mathlib.Core.Bool.{false}
+use mathlib.Core.Path.{_≡_, refl, sym, _∙_}
+use mathlib.Core.Bool.{true, false}
 use mathlib.Core.List.{List}
 use Prim.Native.Nat.{ℕ, _+_, _-_, _≤_, _<_}
 use native.Mathlib.Omega.{arith}
 use borrow.Author.Tests.{ltb-true, ltb-false, eqb-true, eqb-false}
 use lib.Dec.{eqb, ltb}
-use Rattle.basis.proofs.Choice.{cases, either}
+use Rattle.basis.proofs.Choice.{clash, cases, either}
+use Rattle.instruction.specs.Decode.{decodeOf}
 use Rattle.instruction.specs.declared.Instruction.{Instruction}
 use Rattle.cores.specs.Flow.{opAt}
 use Rattle.cores.specs.declared.Core.{Core}
@@ -16,7 +17,7 @@ use Rattle.execute.specs.declared.Done.{Done}
 use Rattle.execute.specs.declared.Done.the-variants as done
 use Rattle.execute.specs.Needs.{Needs, refusal, pushNeeds, needs, fetched, withFetch}
 use Rattle.execute.specs.Execute.{Executed, executed}
-use Rattle.tick.specs.Tick.{Tick, refuses, answerOf, gives, decided, due, entry, executedTick, stepped, entersOrSteps, ticked}
+use Rattle.tick.specs.Tick.{Tick, refuses, answerOf, gives, decided, due, entry, executedTick, stepped, entersOrSteps, ticked, tickOf}
 use Rattle.tick.specs.declared.Offer.{Offer}
 use Rattle.tick.specs.declared.Offer.the-variants.{Vector, Nothing}
 use Rattle.tick.specs.declared.Answer.the-variants.{Refused, Waited, Entered, End}
@@ -82,3 +83,13 @@ module _ (decode : ℕ → ℕ → Instruction) where
         offered b Nothing e =
             cases P (eqb (k .pc) 65535) (gives End (withInhibit k false) m) _ (λ z. end b e (eqb-true (k .pc) 65535 z))
             λ z. every-decided P (stepNeeds k p m) k m (executedTick (performed k p m)) low (step b e (eqb-false (k .pc) 65535 z))
+
+-- a refused tick changes nothing
+pub refused-keeps : (k : Core) (p m : List ℕ) (o : Offer) → refuses (tickOf k p m o .answer) ≡ true → (tickOf k p m o .core ≡ k) × (tickOf k p m o .bytes ≡ m)
+refused-keeps k p m o =
+    every-tick decodeOf (λ t. refuses (t .answer) ≡ true → (t .core ≡ k) × (t .bytes ≡ m)) k p m o
+    (λ n g l e. (refl, refl))
+    (λ g l e. clash (sym e))
+    (λ z v d l e. clash (sym e))
+    (λ z d l e. clash (sym e))
+    λ z d l r e. clash (sym e ∙ done-refuses-not (performed decodeOf k p m .done))

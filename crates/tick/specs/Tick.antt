@@ -1,4 +1,4 @@
--- 01, 'One tick, in this order'.
+-- 01, 'One tick, in this order'. k is a core, p a program, m the bytes of data, o an offer, v a vector, a an answer, n a number of the table, t what a tick gives.
 use mathlib.Core.Path.{_≡_}
 use mathlib.Core.Bool.{Bool, true, false}
 use mathlib.Core.List.{List}
@@ -83,9 +83,9 @@ abbrev pub inPlace : Answer → Core → Ticked
 inPlace a k = record { answer = a; core = k }
 
 -- ---- the steps
--- "A refused call changes no core, no byte of data": a step that needs n, from core k and data m
+-- "A refused call changes no core, no byte of data": a step that gives t where what it needs is there
 abbrev pub decided : Needs → Core → List ℕ → Tick → Tick
-decided n k m t = pick (eqb (refusal n) 0) t (gives (Refused (refusal n)) k m)
+decided needed k m t = pick (eqb (refusal needed) 0) t (gives (Refused (refusal needed)) k m)
 
 -- step 3: "Inhibit set: .. no interrupt this tick. Otherwise, if I is set, in-service is clear and a vector is offered: entry."
 abbrev pub due : Core → Offer → Offer
@@ -93,27 +93,27 @@ due k o = pick (k .inhibit) Nothing (pick (flag k 7) (pick (k .«in_service») N
 
 -- "Low byte of PC goes to data at SP, high byte at SP-1; SP falls by 2; PC is the vector; busy 4; in-service set; I kept"
 abbrev pub entry : Core → ℕ → List ℕ → Out
-entry k v m = let o = wordPushed k (k .pc) m in out (withService (withBusy (withPc (o .core) v) 4) true) (o .bytes)
+entry k v m = let pushed = wordPushed k (k .pc) m in out (withService (withBusy (withPc (pushed .core) v) 4) true) (pushed .bytes)
 
 abbrev pub entered : Core → ℕ → List ℕ → Tick
-entered k v m = let o = entry k v m in decided (pushNeeds k m) k m (gives Entered (o .core) (o .bytes))
+entered k v m = let inside = entry k v m in decided (pushNeeds k m) k m (gives Entered (inside .core) (inside .bytes))
 
 abbrev pub executedTick : Executed → Tick
-executedTick e = gives (answerOf (e .done)) (e .core) (e .bytes)
+executedTick x = gives (answerOf (x .done)) (x .core) (x .bytes)
 
 module _ (decode : ℕ → ℕ → Instruction) where
-  -- step 5: "Fetch, decode, add 1 to PC, execute." j is k with inhibit clear; k is handed back where the step is refused
+  -- step 5: "Fetch, decode, add 1 to PC, execute." next is k with inhibit clear; k is handed back where the step is refused
   unfoldable pub stepped : Core → Core → List ℕ → List ℕ → Tick
-  stepped k j p m =
-      let op = opAt decode p (j .pc) in
-      let i = withPc j (j .pc + 1) in
-      let n = withFetch (fetched p (j .pc) op) (needs decode i op p m) in
-      decided n k m (executedTick (executed decode i op p m))
+  stepped k next p m =
+      let op = opAt decode p (next .pc) in
+      let behind = withPc next (next .pc + 1) in
+      let needed = withFetch (fetched p (next .pc) op) (needs decode behind op p m) in
+      decided needed k m (executedTick (executed decode behind op p m))
 
   -- steps 3 to 5, by the vector that is due. "4. PC 65,535: answer end. Only inhibit may have changed."
   unfoldable pub entersOrSteps : Core → List ℕ → List ℕ → Offer → Tick
   entersOrSteps k p m (Vector v) = entered k v m
-  entersOrSteps k p m Nothing = let j = withInhibit k false in pick (eqb (k .pc) 65535) (gives End j m) (stepped k j p m)
+  entersOrSteps k p m Nothing = let next = withInhibit k false in pick (eqb (k .pc) 65535) (gives End next m) (stepped k next p m)
 
   -- "1. Busy above 4: refusal 5. 2. Busy above 0: it falls by one; answer waited. The offer isn't looked at."
   unfoldable pub ticked : Core → List ℕ → List ℕ → Offer → Tick
@@ -121,6 +121,6 @@ module _ (decode : ℕ → ℕ → Instruction) where
       pick (ltb 4 (k .busy)) (gives (Refused 5) k m)
       (pick (ltb 0 (k .busy)) (gives Waited (withBusy k (k .busy - 1)) m) (entersOrSteps k p m (due k o)))
 
--- the tick, by 01's decode: core k, program p, data m, offer o
+-- the tick, by 01's decode
 abbrev pub tickOf : Core → List ℕ → List ℕ → Offer → Tick
 tickOf k p m o = ticked decodeOf k p m o

@@ -6,7 +6,7 @@ ghost use mathlib.Core.Path.{_≡_};
 ghost use Prim.Native.Nat.{_<_};
 ghost use Rattle.instruction.specs.Decode.{decodeOf};
 ghost use Rattle.execute.specs.Needs.{fetched};
-ghost use Rattle.tick.specs.Tick.{numberOf, answerOf, due, entered, stepped, tickOf, Ticks, inPlace};
+ghost use Rattle.tick.specs.Tick.{numberOf, refuses, stops, answerOf, due, entered, stepped, tickOf, Ticks, inPlace};
 
 // A vector, or none.
 pub enum Offer {
@@ -45,6 +45,40 @@ pub fn number(answer: Answer) -> u8
         Answer::Undefined => 21,
         Answer::Break => 22,
         Answer::End => 23,
+    }
+}
+
+// A refused tick changed nothing.
+pub fn refuses(answer: Answer) -> bool
+    ensures { λ r. ⌜ r ≡ refuses answer ⌝ }
+{
+    match answer {
+        Answer::Refused(_) => true,
+        Answer::Waited => false,
+        Answer::Entered => false,
+        Answer::Ran => false,
+        Answer::Sleep => false,
+        Answer::Watchdog => false,
+        Answer::Undefined => false,
+        Answer::Break => false,
+        Answer::End => false,
+    }
+}
+
+// Break and the end: the Rust's `false`.
+pub fn stops(answer: Answer) -> bool
+    ensures { λ r. ⌜ r ≡ stops answer ⌝ }
+{
+    match answer {
+        Answer::Break => true,
+        Answer::End => true,
+        Answer::Refused(_) => false,
+        Answer::Waited => false,
+        Answer::Entered => false,
+        Answer::Ran => false,
+        Answer::Sleep => false,
+        Answer::Watchdog => false,
+        Answer::Undefined => false,
     }
 }
 

@@ -118,6 +118,10 @@ Example =
 abbrev pub WholeTrace : Type 0
 WholeTrace = (s d o : List ℕ) (n : ℕ) → Bytes s → 65535 * 36 ≤ length d → Prints (traceOf s) d n o → take n o ≡ traceOf s
 
+-- the theorem, proved in proofs/Cut.antt: the program reads at most 6 and 49,152 bytes, and prints the trace of the whole input
+abbrev pub CutTrace : Type 0
+CutTrace = (s : List ℕ) → traceOf (take 49158 s) ≡ traceOf s
+
 -- ---- the code's buffer, and where the next byte goes
 pub record Page : Type 0 where
   pub bytes : List ℕ

@@ -19,7 +19,7 @@ pub fn put_lines(out: &mut [u8], program: &[u8], sp: u16, budget: u16) -> usize
         core = ticked.core;
         number += 1;
         at = put_line(out, at, number, before, answer, core);
-        if run::refuses(answer) | run::stops(answer) {
+        if tick::refuses(answer) | tick::stops(answer) {
             return at;
         }
     }
