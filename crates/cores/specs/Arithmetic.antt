@@ -1,4 +1,4 @@
--- 01, 'Arithmetic and flags', in the order of cores.rs. d and r are register numbers, K and b are bytes.
+-- 01, 'Arithmetic and flags', in the order of cores.rs. k is a core, d and r are register numbers, K and b are bytes, x is a result.
 -- "Z is result zero, N its top bit, S is N xor V."
 use mathlib.Core.Bool.{Bool, true, false, not, _&&_, _||_}
 use Prim.Native.Nat.{ℕ, _+_, _%_, _-_}
@@ -57,14 +57,17 @@ decOf k d = resulted k d ((reg k d + 255) % 256) (eqb (reg k d) 128)
 abbrev pub eorOf : Core → ℕ → ℕ → Core
 eorOf k d b = resulted k d (bitXor (reg k d) b) false
 
--- ---- products, p the 16 bits of one
+-- ---- products, of 16 bits
 -- "exact product in R1:R0, C its bit 15, Z; no other flag"
 abbrev pub multiplied : Core → ℕ → Core
-multiplied k p = let k₁ = withBusy k 1 in withSreg (withWord k₁ 0 p) (cz (k .sreg) (negativeWord p) (eqb p 0))
+multiplied k product = let k₁ = withBusy k 1 in withSreg (withWord k₁ 0 product) (cz (k .sreg) (negativeWord product) (eqb product 0))
 
 -- "FMUL forms: C product bit 15, then doubled modulo 65,536, Z of that."
 abbrev pub fractional : Core → ℕ → Core
-fractional k p = let k₁ = withBusy k 1 in withSreg (withWord k₁ 0 (doubledOf p)) (cz (k .sreg) (negativeWord p) (eqb (doubledOf p) 0))
+fractional k product =
+    let k₁ = withBusy k 1 in
+    let x = doubledOf product in
+    withSreg (withWord k₁ 0 x) (cz (k .sreg) (negativeWord product) (eqb x 0))
 
 -- "MULSU and FMULSU take Rd signed and Rr unsigned, MULS and FMULS both signed, MUL and FMUL both unsigned."
 abbrev pub unsignedOf : Core → ℕ → ℕ → ℕ

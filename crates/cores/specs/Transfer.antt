@@ -1,4 +1,5 @@
--- 01, 'Memory, stack and flow': transfers, in the order of cores.rs.
+-- 01, 'Memory, stack and flow': transfers, in the order of cores.rs. k is a core, d and r are register numbers, at is an address, v a byte, m the bytes of data,
+-- pointer the number of a pointer's low register, q a displacement; dec and inc say whether the pointer is stepped.
 use mathlib.Core.Bool.{Bool, true}
 use mathlib.Core.List.{List}
 use Prim.Native.Nat.{ℕ, _+_, _*_, _/_, _%_}
@@ -26,40 +27,41 @@ setDataOf k at v m =
 abbrev pub inOf : Core → ℕ → ℕ → List ℕ → Core
 inOf k d A m = withReg k d (dataOf k A m)
 
--- "A pre-decrement happens before the register or memory is read": the pointer at registers p and p + 1, lowered where dec
+-- "A pre-decrement happens before the register or memory is read": lowered where dec
 unfoldable pub pointedOf : Core → ℕ → Bool → ℕ
-pointedOf k p dec = pick dec (down (word k p) 1) (word k p)
+pointedOf k pointer dec = pick dec (down (word k pointer) 1) (word k pointer)
 
+-- a pointer made so, where on
 unfoldable pub wordIf : Core → Bool → ℕ → ℕ → Core
-wordIf k on p v = pick on (withWord k p v) k
+wordIf k on pointer to = pick on (withWord k pointer to) k
 
 -- "a post-increment is written after the load, so it wins over a load into the pointer"; "A displaced address is pointer plus q, not wrapped."
 abbrev pub ldOf : Core → ℕ → ℕ → ℕ → Bool → Bool → List ℕ → Core
-ldOf k d p q dec inc m =
-    let at = pointedOf k p dec in
-    let k₁ = wordIf (withBusy k 2) dec p at in
-    wordIf (withReg k₁ d (dataOf k₁ (at + q) m)) inc p (up at 1)
+ldOf k d pointer q dec inc m =
+    let at = pointedOf k pointer dec in
+    let k₁ = wordIf (withBusy k 2) dec pointer at in
+    wordIf (withReg k₁ d (dataOf k₁ (at + q) m)) inc pointer (up at 1)
 
 abbrev pub stOf : Core → ℕ → ℕ → ℕ → Bool → Bool → List ℕ → Out
-stOf k r p q dec inc m =
-    let at = pointedOf k p dec in
-    let k₁ = wordIf (withBusy k 1) dec p at in
-    let o = setDataOf k₁ (at + q) (reg k₁ r) m in
-    out (wordIf (o .core) inc p (up at 1)) (o .bytes)
+stOf k r pointer q dec inc m =
+    let at = pointedOf k pointer dec in
+    let k₁ = wordIf (withBusy k 1) dec pointer at in
+    let stored = setDataOf k₁ (at + q) (reg k₁ r) m in
+    out (wordIf (stored .core) inc pointer (up at 1)) (stored .bytes)
 
 abbrev pub ldsOf : Core → ℕ → ℕ → List ℕ → Core
 ldsOf k d at m = withReg (withBusy k 2) d (dataOf k at m)
 
 -- "LPM forms": the program's byte at Z
 abbrev pub lpmOf : Core → ℕ → Bool → List ℕ → Core
-lpmOf k d inc p = wordIf (withReg (withBusy k 2) d (getD p (word k 30) 0)) inc 30 (up (word k 30) 1)
+lpmOf k d inc program = wordIf (withReg (withBusy k 2) d (getD program (word k 30) 0)) inc 30 (up (word k 30) 1)
 
 -- "PUSH stores, then lowers SP; POP raises SP, then reads."
 abbrev pub popOf : Core → ℕ → List ℕ → Core
 popOf k d m = let k₁ = withSp (withBusy k 1) (up (k .sp) 1) in withReg k₁ d (dataOf k₁ (up (k .sp) 1) m)
 
 abbrev pub pushOf : Core → ℕ → List ℕ → Out
-pushOf k r m = let o = setDataOf k (k .sp) (reg k r) m in out (withSp (o .core) (down (o .core .sp) 1)) (o .bytes)
+pushOf k r m = let stored = setDataOf k (k .sp) (reg k r) m in out (withSp (stored .core) (down (stored .core .sp) 1)) (stored .bytes)
 
 abbrev pub stsOf : Core → ℕ → ℕ → List ℕ → Out
 stsOf k r at m = setDataOf (withBusy k 1) at (reg k r) m

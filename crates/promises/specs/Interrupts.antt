@@ -8,15 +8,17 @@
 -- The core is neither busy nor in service at its start; all else is as it may be: registers, SREG, SP, data, and inhibit set or clear. Instructions
 -- of the stretch may set and clear any flag, I too.
 -- Two runs begin there. One is offered what one likes, at each tick a vector or none. The plain run is offered none. A run is at the end when PC stands
--- behind the stretch and the core is neither busy nor in service; the two are there first after J and after I ticks.
+-- behind the stretch and the core is neither busy nor in service; the two are there first after `long` and after `short` ticks.
 --
 -- Assumed is, of the run with offers and up to its end: no tick is refused; and each handler gets to its first RETI with registers and SREG as they were
 -- before its entry, SP two lower, and the two return bytes as the entry left them. What it does on the way is its own affair: it may push, call, loop,
 -- store, and run words of the stretch.
 --
--- Promised is: both runs get to the end, with the same registers, SREG, SP and PC. J is I and the handlers' ticks, each handler's counted from its entry
+-- Promised is: both runs get to the end, with the same registers, SREG, SP and PC. `long` is `short` and the handlers' ticks, each handler's counted from its entry
 -- to the third wait after its RETI. Only handlers wrote data, their entries being theirs; the plain run wrote none, only waited and ran, and took at
 -- most two ticks an instruction.
+--
+-- p is a program, s core and data, o an offer, v what is offered at each tick, n how many instructions the stretch has; t, r and u are numbers of ticks.
 use mathlib.Core.Path.{_≡_}
 use mathlib.Core.Logic.{_⊎_, _↔_}
 use mathlib.Core.Bool.{Bool, true, false, _&&_}
@@ -50,7 +52,7 @@ abbrev pub tickAt : List ℕ → Offer → State → Tick
 tickAt p o s = tickOf (s .core) p (s .bytes) o
 
 abbrev pub next : List ℕ → Offer → State → State
-next p o s = let t = tickAt p o s in record { core = t .core; bytes = t .bytes }
+next p o s = let made = tickAt p o s in record { core = made .core; bytes = made .bytes }
 
 -- what is offered, by the tick's number
 abbrev pub Offers : Type 0
@@ -130,38 +132,38 @@ module _ (p : List ℕ) (s : State) where
     pub allowed : (t : ℕ) → NotYet (Ended n v) t → 16 ≤ numberAt v t
     pub handled : (t : ℕ) → NotYet (Ended n v) t → enters v t ≡ true → Handled v t
 
-  -- the same where the end is known to be reached first after J ticks: that handlers get to their RETI is not assumed
-  pub record AssumedTo (n : ℕ) (v : Offers) (J : ℕ) : Type 0 where
+  -- the same where the end is known to be reached first after so many ticks: that handlers get to their RETI is not assumed
+  pub record AssumedTo (n : ℕ) (v : Offers) (long : ℕ) : Type 0 where
     pub begins : Begins n
-    pub first : First (Ended n v) J
-    pub allowed : (t : ℕ) → t < J → 16 ≤ numberAt v t
-    pub restored : (t r : ℕ) → r < J → enters v t ≡ true → FirstReti (returns v) t r → Restored v t r
+    pub first : First (Ended n v) long
+    pub allowed : (t : ℕ) → t < long → 16 ≤ numberAt v t
+    pub restored : (t r : ℕ) → r < long → enters v t ≡ true → FirstReti (returns v) t r → Restored v t r
 
-  -- ---- what is promised: J ticks under the offers v, I ticks under none
-  pub record NoTrace (n : ℕ) (v : Offers) (J I : ℕ) : Type 0 where
-    pub first : First (Ended n v) J
-    pub plain-first : First (Ended n noOffers) I
-    pub same-kept : kept (after v J) ≡ kept (after noOffers I)
-    pub same-sp : sp (after v J) ≡ sp (after noOffers I)
-    pub same-pc : pc (after v J) ≡ pc (after noOffers I)
-    pub ticks : J ≡ I + handlerTicks (enters v) (returns v) J
+  -- ---- what is promised: so many ticks under the offers v, long, and so many under none, short
+  pub record NoTrace (n : ℕ) (v : Offers) (long short : ℕ) : Type 0 where
+    pub first : First (Ended n v) long
+    pub plain-first : First (Ended n noOffers) short
+    pub same-kept : kept (after v long) ≡ kept (after noOffers short)
+    pub same-sp : sp (after v long) ≡ sp (after noOffers short)
+    pub same-pc : pc (after v long) ≡ pc (after noOffers short)
+    pub ticks : long ≡ short + handlerTicks (enters v) (returns v) long
     -- what is counted is the handlers' ticks
-    pub counts : (t : ℕ) → t < J → (countedAt (enters v) (returns v) t ≡ 1) ↔ OfHandler (enters v) (returns v) t
+    pub counts : (t : ℕ) → t < long → (countedAt (enters v) (returns v) t ≡ 1) ↔ OfHandler (enters v) (returns v) t
     -- a tick that is no handler's writes no data
-    pub wrote : (t : ℕ) → t < J → ¬ (OfHandler (enters v) (returns v) t) → after v (suc t) .bytes ≡ after v t .bytes
-    pub plain-wrote : (u : ℕ) → u ≤ I → after noOffers u .bytes ≡ s .bytes
+    pub wrote : (t : ℕ) → t < long → ¬ (OfHandler (enters v) (returns v) t) → after v (suc t) .bytes ≡ after v t .bytes
+    pub plain-wrote : (u : ℕ) → u ≤ short → after noOffers u .bytes ≡ s .bytes
     -- each answer of the plain run is waited or ran
-    pub plain-goes : (u : ℕ) → u < I → (numberAt noOffers u ≡ 16) ⊎ (numberAt noOffers u ≡ 18)
-    pub plain-bound : I ≤ 2 * n
+    pub plain-goes : (u : ℕ) → u < short → (numberAt noOffers u ≡ 16) ⊎ (numberAt noOffers u ≡ 18)
+    pub plain-bound : short ≤ 2 * n
 
 -- ---- THE DEMAND, in two forms, for every program, core, data, stretch and offers
 -- both runs get to the end, and there is no trace
 abbrev pub InterruptsLeaveNoTrace : Type 0
-InterruptsLeaveNoTrace = (p : List ℕ) (s : State) (n : ℕ) (v : Offers) → Assumed p s n v → (J : ℕ) × (I : ℕ) × NoTrace p s n v J I
+InterruptsLeaveNoTrace = (p : List ℕ) (s : State) (n : ℕ) (v : Offers) → Assumed p s n v → (long : ℕ) × (short : ℕ) × NoTrace p s n v long short
 
--- a run that gets to the end after J ticks shows no trace there, whatever comes later
+-- a run that gets to the end after so many ticks shows no trace there, whatever comes later
 abbrev pub NoTraceAtTheEnd : Type 0
-NoTraceAtTheEnd = (p : List ℕ) (s : State) (n : ℕ) (v : Offers) (J : ℕ) → AssumedTo p s n v J → (I : ℕ) × NoTrace p s n v J I
+NoTraceAtTheEnd = (p : List ℕ) (s : State) (n : ℕ) (v : Offers) (long : ℕ) → AssumedTo p s n v long → (short : ℕ) × NoTrace p s n v long short
 
 -- ---- and the third wait after a RETI is at the third tick after it, where the count of a handler's ticks ends
 abbrev pub ThreeWaitsAfterReti : Type 0

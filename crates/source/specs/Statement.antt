@@ -3,6 +3,10 @@
 -- or end exactly where the bool is false. Where it panics, 01's tick is refused with one of 1 to 4.
 -- So over all cores by their types with busy at most 4, all programs, data and offers, a tick is refused exactly where a debug build panics.
 -- With busy above 4 the Rust would wait on and 01 refuses with 5: `Sound` has busy at most 4.
+-- Of the answer two things are compared, since the Rust has no more: refused or not, and stops or not. Which number it is of 1 to 4, and which of waited,
+-- entered, ran, sleep, watchdog, undefined, break and end, is 01's table's (crates/table/specs/Table.antt).
+-- k and j are cores, p is a program, m the bytes of data, o an offer, t 01's tick; the Rust returns b and leaves u; back is what the code hands back, and
+-- left the bytes that it leaves in data.
 use mathlib.Core.Path.{_≡_}
 use mathlib.Core.Bool.{Bool, true, false, not}
 use mathlib.Core.List.{List}
@@ -49,14 +53,14 @@ panics (ok b u) = false
 abbrev pub RefusedExactlyWhereItPanics : Type 0
 RefusedExactlyWhereItPanics = (k : Core) (p m : List ℕ) (o : Offer) → Sound k → Bytes p → Bytes m → refuses (tickOf k p m o .answer) ≡ panics (tick (selfOf k p m o))
 
--- ---- of the code that runs: whatever meets the contract of `tick` (r handed back, n left in the data) or of `tick_in_place` (a handed back, j left behind the
--- reference, n left in the data) is the Rust's tick
+-- ---- of the code that runs: whatever meets the contract of `tick`, or of `tick_in_place` (an answer handed back, core j left behind the reference), is the
+-- Rust's tick
 abbrev pub CodeEqualsTheRust : Type 0
 CodeEqualsTheRust =
-    (k : Core) (p m : List ℕ) (o : Offer) (r : Ticked) (n : List ℕ) → Sound k → Bytes p → Bytes m →
-    Ticks (tickOf k p m o) r n → Matches (gives (r .answer) (r .core) n) (tick (selfOf k p m o))
+    (k : Core) (p m : List ℕ) (o : Offer) (back : Ticked) (left : List ℕ) → Sound k → Bytes p → Bytes m →
+    Ticks (tickOf k p m o) back left → Matches (gives (back .answer) (back .core) left) (tick (selfOf k p m o))
 
 abbrev pub InPlaceEqualsTheRust : Type 0
 InPlaceEqualsTheRust =
-    (k : Core) (p m : List ℕ) (o : Offer) (a : Answer) (j : Core) (n : List ℕ) → Sound k → Bytes p → Bytes m →
-    Ticks (tickOf k p m o) (inPlace a j) n → Matches (gives a j n) (tick (selfOf k p m o))
+    (k : Core) (p m : List ℕ) (o : Offer) (answer : Answer) (j : Core) (left : List ℕ) → Sound k → Bytes p → Bytes m →
+    Ticks (tickOf k p m o) (inPlace answer j) left → Matches (gives answer j left) (tick (selfOf k p m o))
