@@ -19,7 +19,7 @@ use Rattle.source.specs.Tick.{dispatch}
 use Rattle.source.proofs.Steps.{withOut, after-pick}
 use Rattle.source.proofs.Needs.{met}
 use Rattle.source.proofs.Arithmetic.{adc-is, add-is, adiw-is, and-is, andi-is, com-is, dec-is, eor-is, inc-is, neg-is, or-is, ori-is, sbiw-is}
-use Rattle.source.proofs.Differences.{sbc-is, sbci-is, sub-is, subi-is, cp-is, cpc-is, cpi-is}
+use Rattle.source.proofs.Subtraction.{sbc-is, sbci-is, sub-is, subi-is, cp-is, cpc-is, cpi-is}
 use Rattle.source.proofs.Products.{fmul-is, fmuls-is, fmulsu-is, mul-is, muls-is, mulsu-is}
 use Rattle.source.proofs.Flow.{brbx-is, call-is, icall-is, ijmp-is, jmp-is, rcall-is, ret-is, reti-is, rjmp-is}
 use Rattle.source.proofs.Skips.{cpse-is, sbix-is, sbrx-is}

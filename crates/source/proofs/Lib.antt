@@ -1,5 +1,5 @@
 -- From the bottom up. `Steps`, `Registers`, `Space`, `Stack`, `Program`: what the Rust's primitives come to. `Sums`, `Signed`: its numbers.
--- `Arithmetic` to `Transfer`: each handler. `Needs`, `Dispatch`, `Tick`: the tick. `Source`: the theorem. `Bench`: computed.
+-- `Arithmetic` to `Transfer`: each handler, those that subtract in `Subtraction`. `Needs`, `Dispatch`, `Tick`: the tick. `Source`: the theorem. `Bench`: computed.
 pub mod Steps
 pub mod Registers
 pub mod Space
@@ -8,7 +8,7 @@ pub mod Program
 pub mod Sums
 pub mod Signed
 pub mod Arithmetic
-pub mod Differences
+pub mod Subtraction
 pub mod Products
 pub mod Flow
 pub mod Skips

@@ -25,7 +25,7 @@ use Rattle.source_decode.specs.RustDecode.{rustDecode}
 use Rattle.source_decode.proofs.Decodes.{decodes-as-the-rust}
 use Rattle.source.specs.Monad.{Self, Outcome, ok, panic}
 use Rattle.source.specs.Registers.{progmem·read, progmem·read-or-0, get-progmem, get-progmem-unused}
-use Rattle.source.specs.Pattern.{CALL|JMP|LDS|STS}
+use Rattle.source.specs.CallJmpLdsSts.{CALL|JMP|LDS|STS}
 use Rattle.source.proofs.Steps.{after-pick, pick-panic}
 use Rattle.source.proofs.Stack.{joined}
 

@@ -20,7 +20,7 @@ use Rattle.source_decode.specs.RustDecode.{rustDecode}
 use Rattle.source.specs.Monad.{Self, Outcome, panic, Rust, _>>=_, _>>_, if_then_else_, when, self·pc, busy=}
 use Rattle.source.specs.Integers.{_+u16_, _xor_, pc+=}
 use Rattle.source.specs.Registers.{get-progmem, get-progmem-unused}
-use Rattle.source.specs.Pattern.{CALL|JMP|LDS|STS}
+use Rattle.source.specs.CallJmpLdsSts.{CALL|JMP|LDS|STS}
 use Rattle.source.specs.Flow.{cpse, sbix, sbrx}
 use Rattle.source.proofs.Steps.{leaves, after-pick, pick-panic, twice, and-under}
 use Rattle.source.proofs.Registers.{get-ok, and-flag}

@@ -7,9 +7,10 @@ use lib.IntN.{pos, _+ℤ_}
 use Rattle.source_decode.specs.RustDecode.{rustDecode}
 use Rattle.source.specs.Monad.{Rust, _>>=_, _>>_, if_then_else_, when, self·pc, self·sp, pc=, busy=, interupt-inhibit=, lvl0ex=}
 use Rattle.source.specs.Integers.{_+u16_, _<<u8_, _<<u16_, _>>u16_, u8::overflowing-sub, u16::overflowing-add, as-u8, as-u16, view-bits, _xor_, pc+=, sp+=, sp-=, u8-as-i8, signed-as-u16}
-use Rattle.source.specs.Pattern.{CALL|JMP|LDS|STS}
+use Rattle.source.specs.CallJmpLdsSts.{CALL|JMP|LDS|STS}
 use Rattle.source.specs.Registers.{ds·read, ds·write, get-register, get-register-word, get-io-register, get-progmem, get-progmem-unused, BitSREG::C, BitSREG::Z, BitSREG::N, BitSREG::V, BitSREG::S, BitSREG::H, BitSREG::from, get-sreg-bit, set-sreg-bit}
 
+-- k is the byte of the Rust's i8. The sum is of an i32, which a PC and a byte cannot overflow: it is not checked
 unfoldable pub brbx : ℕ → ℕ → Bool → Rust Unit  -- 711
 brbx s k set = do
   bit ← get-sreg-bit (← BitSREG::from s)
@@ -126,7 +127,7 @@ jmp k = do
   busy= 2
   pc= (as-u16 k)
 
--- `k as u16` changes no bit of k
+-- k is the word of the Rust's i16, and `k as u16` changes no bit of it
 unfoldable pub rcall : ℕ → Rust Unit  -- 868
 rcall k = do
   busy= 1
@@ -160,6 +161,7 @@ reti = do
   interrupt-handler·reti
   interupt-inhibit= true
 
+-- k is the word of the Rust's i16, and `k as u16` changes no bit of it
 unfoldable pub rjmp : ℕ → Rust Unit  -- 908
 rjmp k = do
   busy= 1

@@ -1,5 +1,7 @@
 -- cores.rs 70 to 165: registers, I/O registers, data space, program space and SREG; memory.rs 9 to 22. A number behind a name is its line.
--- A snake_case name of the Rust is written with hyphens.
+-- A snake_case name of the Rust is written with hyphens. Left out, since no number changes by them: `usize::from` and `usize::try_from` of an address, the borrows,
+-- and the latency that a memory hands back beside a byte and every caller drops. Not checked, since they cannot overflow: sums of a `usize` (a register's number
+-- and 1, a byte's address and 1).
 use mathlib.Core.Bool.{Bool, not}
 use Prim.Native.Nat.{ℕ, _+_, _*_, _^_}
 use lib.Dec.{eqb, ltb}
@@ -91,7 +93,7 @@ set-data-space address value =
 unfoldable pub get-ps : ℕ → Rust ℕ  -- 141
 get-ps address = progmem·read address
 
--- 148, with 01's exception: "any word fetched at PC 65,535" reads 0 outside the program
+-- 148, with 01's exception: "any word fetched at PC 65,535" reads 0 outside the program. `pc << 1` is of a u32, and pc is at most 65,536: no bit leaves it
 unfoldable pub get-progmem : ℕ → Rust ℕ
 get-progmem pc = do
   let address = pc * 2 ^ 1

@@ -11,13 +11,14 @@ use Rattle.source_decode.specs.RustDecode.{rustDecode}
 use Rattle.source.specs.Monad.{Rust, _>>=_, _>>_, return, if_then_else_, when, self·pc, self·sp, self·busy, self·interupt-inhibit, self·lvl0ex, self·pending, pc=, busy=, interupt-inhibit=, lvl0ex=}
 use Rattle.source.specs.Integers.{_-u8_, _>>u16_, as-u8, pc+=, sp-=}
 use Rattle.source.specs.Registers.{ds·write, get-progmem, get-progmem-unused, BitSREG::I, get-sreg-bit}
-use Rattle.source.specs.Pattern.{CALL|JMP|LDS|STS}
+use Rattle.source.specs.CallJmpLdsSts.{CALL|JMP|LDS|STS}
 use Rattle.source.specs.Arithmetic.{adc, add, adiw, and, andi, «com», dec, eor, fmul, fmuls, fmulsu, inc, mul, muls, mulsu, neg, or, ori, sbc, sbci, sbiw, sub, subi}
 use Rattle.source.specs.Flow.{brbx, call, cp, cpc, cpi, cpse, icall, ijmp, jmp, rcall, ret, reti, rjmp, sbix, sbrx}
 use Rattle.source.specs.Bits.{asr, bclr, bld, bset, bst, cbi, lsl, lsr, ror, sbi, swap}
 use Rattle.source.specs.Transfer.{PointerRegister::X, PointerRegister::Y, PointerRegister::Z, in-, ld, st, ldi, lds, lpm, mov, movw, out, pop, push, sts}
 
--- cpuint.rs 64, with 01's one source: what it offers
+-- cpuint.rs 64, with 01's one source: what it offers. `self.vectors` is a table of 30 even numbers, and its entry is what is returned; here any vector stands for
+-- that entry, so that the theorem holds for this table and for every other
 unfoldable pub service-pending : Rust Offer
 service-pending = do
   lvl0ex ← self·lvl0ex
@@ -154,7 +155,7 @@ dispatch WDR = return true  -- 1365
 -- Undefined
 dispatch UNDEF = return true  -- 1367
 
--- 1248 to 1250. By 01 the prefetched word reads 0 outside the program where op does not use it; where op does, this memory panics there
+-- 1248 to 1250; `(self.pc as u32) + 1` is of a u32 and cannot overflow. By 01 the prefetched word reads 0 outside the program where op does not use it; where op does, this memory panics there
 unfoldable pub fetch : Rust Instruction
 fetch = do
   pc ← self·pc

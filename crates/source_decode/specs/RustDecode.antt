@@ -30,7 +30,8 @@ extended12 k =
     let k₃ = set 14 (bit 11 k₂) k₂ in
     set 15 (bit 11 k₃) k₃
 
--- `x << 1` is `x * 2`: no letter that is shifted fills its byte
+-- A letter's number is cast to u8, or to u32 for `k << 16`, which changes none but LSL's d of ten bits. `+ 16`, `+ 24` and `x << 1`, which is `x * 2`, are of a u8,
+-- and the letter before them has at most four bits: none overflows and none is checked
 unfoldable pub arms : List Arm
 arms =
     on "0000_0000_0000_0000" (plain (λ x. NOP)) ∷  -- 1518
@@ -78,7 +79,7 @@ arms =
     on "1001_0101_1100_1000" (plain (λ x. LPM)) ∷  -- 1643
     on "1001_000d_dddd_0100" (plain (λ x. LPMZ (x "d"))) ∷  -- 1644
     on "1001_000d_dddd_0101" (plain (λ x. LPMZinc (x "d"))) ∷  -- 1645
-    on "0000_11dd_dddd_dddd" (plain (λ x. LSL (x "d"))) ∷  -- 1646
+    on "0000_11dd_dddd_dddd" (plain (λ x. LSL (x "d" % 256))) ∷  -- 1646
     on "1001_010d_dddd_0110" (plain (λ x. LSR (x "d"))) ∷  -- 1647
     on "0010_11rd_dddd_rrrr" (plain (λ x. MOV (x "d") (x "r"))) ∷  -- 1648
     on "0000_0001_dddd_rrrr" (plain (λ x. MOVW (x "d" * 2) (x "r" * 2))) ∷  -- 1652
