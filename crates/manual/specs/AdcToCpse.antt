@@ -13,7 +13,7 @@ use Rattle.cores.specs.State.{Out, reg, word, withReg, withWord, withSreg, with
 use Rattle.cores.specs.Flow.{wordPushed}
 use Rattle.tick.specs.declared.Answer.the-variants.{Ran, Break}
 use Rattle.manual.specs.Notation.{_!_, _•_, _⊹_, _⊕_, bar, zero8, zero16, kept, is, row, bitTo, carry, next, goes}
-use Rattle.manual.specs.Switches.{Switches, Says, says}
+use Rattle.manual.specs.Switches.{Switches, adiwV, outside, afterSei, target, Says, says}
 
 -- ADC, add with carry: Rd ← Rd + Rr + C. 1 word, 1 cycle
 unfoldable pub adc : Core → ℕ → ℕ → Core
@@ -48,7 +48,7 @@ unfoldable pub adiw : Switches → Core → ℕ → ℕ → Core
 adiw s k d K =
     let Rdh7 = reg k (d + 1) ! 7 in
     let R = (word k d + K) % 65536 in
-    let «V» = bar (pick (s .adiwV) (reg k d ! 7) Rdh7) • R ! 15 in
+    let «V» = bar (pick (s adiwV) (reg k d ! 7) Rdh7) • R ! 15 in
     let N = R ! 15 in
     let S = N ⊕ «V» in
     let Z = zero16 R in
@@ -109,14 +109,14 @@ brbs k s o = pick (k .sreg ! s) (goes k (branchTarget k o) 2) (next k 1 1)
 
 -- BREAK: a break for the on-chip debug system. 1 word, 1 cycle. With the debug system off the CPU treats it as a NOP, and so does this page; the Rust stops
 unfoldable pub break : Switches → Core → List ℕ → Says
-break s k m = says (pick (s .outside) Break Ran) (next k 1 1) m
+break s k m = says (pick (s outside) Break Ran) (next k 1 1) m
 
 -- BSET, bit set in SREG: SREG(s) ← 1. 1 word, 1 cycle. SEC SEZ SEN SEV SES SEH SET SEI are its aliases.
 -- SEI: the instruction behind it is executed before any pending interrupt, which is what inhibit is for
 unfoldable pub bset : Switches → Core → ℕ → Core
 bset s k b =
     let k₁ = withSreg (next k 1 1) (bitTo (k .sreg) b true) in
-    pick (s .afterSei || not (eqb b 7)) k₁ (withInhibit k₁ true)
+    pick (s afterSei || not (eqb b 7)) k₁ (withInhibit k₁ true)
 
 -- BST, bit store from a register's bit to T: T ← Rd(b). 1 word, 1 cycle
 unfoldable pub bst : Core → ℕ → ℕ → Core
@@ -124,7 +124,7 @@ bst k d b = withSreg (next k 1 1) (row (k .sreg) kept (is (reg k d ! b)) kept ke
 
 -- CALL, long call to a subroutine: STACK ← PC + 2, SP ← SP - 2, PC ← k. 2 words, 3 cycles. The Rust drops the target's bits above the 16th
 unfoldable pub call : Switches → Core → ℕ → List ℕ → Out
-call s k t m = wordPushed (goes k (pick (s .target) (t % 65536) t) 3) (up (k .pc) 2) m
+call s k t m = wordPushed (goes k (pick (s target) (t % 65536) t) 3) (up (k .pc) 2) m
 
 -- CBI, clear bit in I/O register: I/O(A,b) ← 0. 1 word, 1 cycle
 unfoldable pub cbi : ℕ → ℕ → List ℕ → List ℕ

@@ -7,7 +7,7 @@ use Rattle.instruction.specs.declared.Instruction.the-variants.{ADC, ADD, ADIW,
 use Rattle.cores.specs.declared.Core.{Core}
 use Rattle.tick.specs.declared.Answer.the-variants.{Undefined}
 use Rattle.manual.specs.Notation.{next}
-use Rattle.manual.specs.Switches.{Switches, Says, says, ran, ranOut, definedIf}
+use Rattle.manual.specs.Switches.{Switches, unknown, Says, says, ran, ranOut, definedIf}
 use Rattle.manual.specs.AdcToCpse.{adc, add, adiw, and, andi, asr, bclr, bld, brbc, brbs, break, bset, bst, call, cbi, «com», cp, cpc, cpi, cpse}
 use Rattle.manual.specs.DecToLsr.{dec, eor, fmul, fmuls, fmulsu, icall, ijmp, in-, inc, jmp, ldX, ldXinc, ldXdec, ldYinc, ldYdec, lddY, ldZinc, ldZdec, lddZ, ldi, lds, lpm, lpmInc, lsr}
 use Rattle.manual.specs.MovToRor.{mov, movw, mul, muls, mulsu, neg, nop, or, ori, out-, pop, push, rcall, ret, reti, rjmp, ror}
@@ -101,4 +101,4 @@ instruction s two k (SUB d r) p m = ran (sub k d r) m
 instruction s two k (SUBI d K) p m = ran (subi k d K) m
 instruction s two k (SWAP d) p m = ran (swap k d) m
 instruction s two k WDR p m = wdr s k m
-instruction s two k UNDEF p m = definedIf (s .unknown) (says Undefined (next k 1 1) m)
+instruction s two k UNDEF p m = definedIf (s unknown) (says Undefined (next k 1 1) m)
