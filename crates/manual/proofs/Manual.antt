@@ -1,18 +1,20 @@
 -- The theorems of specs/Statement.antt, but for the end alone.
 -- Assumes nothing.
 use mathlib.Core.Path.{_≡_, refl, sym, ap, _∙_}
-use mathlib.Core.Bool.{Bool, true, false, _&&_}
+use mathlib.Core.Bool.{Bool, true, false, _&&_, _||_}
+use mathlib.Core.List.{List, [], _∷_}
 use Rattle.basis.specs.Pick.{pick}
 use Rattle.basis.proofs.Choice.{clash}
 use Rattle.instruction.specs.declared.Instruction.{Instruction}
 use Rattle.cores.specs.declared.Core.{Core}
 use Rattle.cores.specs.State.{withInhibit}
 use Rattle.tick.specs.Tick.{tickOf}
-use Rattle.manual.specs.Switches.{Switch, adiwV, loads, stores, afterSei, unknown, outside, end, target, pointers, theRust, allBut, Says}
-use Rattle.manual.specs.Tick.{told, opcodeAt}
-use Rattle.manual.specs.Differences.{lists, changes, changed}
-use Rattle.manual.specs.Statement.{executes, EqualsTheManual, EqualsBySwitches, Alone, AdiwAlone, LoadsAlone, StoresAlone, SeiAlone, UnknownAlone, OutsideAlone, TargetAlone, PointersAlone}
+use Rattle.manual.specs.Switches.{Switch, adiwV, loads, stores, afterSei, unknown, outside, end, target, pointers, Switches, theRust, theManual, allBut, Says}
+use Rattle.manual.specs.Tick.{told, opcodeAt, step, tickBy}
+use Rattle.manual.specs.Differences.{lists, listedBy, changes, changedBy, all, changed}
+use Rattle.manual.specs.Statement.{executes, EqualsTheManual, EqualsBySwitches, Alone, AdiwAlone, LoadsAlone, StoresAlone, SeiAlone, UnknownAlone, OutsideAlone, TargetAlone, PointersAlone, withEnd, EqualsUnlessListed}
 use Rattle.manual.proofs.Ticks.{tick-is}
+use Rattle.manual.proofs.End.{end-alone}
 
 -- ---- 2
 pub equals-by-switches : EqualsBySwitches
@@ -82,3 +84,29 @@ target-alone = alone target refl
 
 pub pointers-alone : PointersAlone
 pointers-alone = alone pointers refl
+
+-- ---- 5
+either-false : (a b : Bool) → a || b ≡ false → (a ≡ false) × (b ≡ false)
+either-false true b n = clash n
+either-false false b n = (refl, n)
+
+-- where no switch of l lists i, nothing is changed
+unlisted : (l : List Switch) (s : Switches) (k : Core) (i : Instruction) (x : Says) → listedBy l i ≡ false → changedBy l s k i x ≡ x
+unlisted [] s k i x n = refl
+unlisted (w ∷ l) s k i x n = let e = either-false (lists w i) (listedBy l i) n in rw (e .0) (unlisted l s k i x (e .1))
+
+unless : (a b : Bool) (x y : Says) → a && b ≡ false → (b ≡ false → y ≡ x) → pick a y x ≡ x
+unless true true x y n h = clash n
+unless true false x y n h = h refl
+unless false b x y n h = refl
+
+pub equals-unless-listed : EqualsUnlessListed
+equals-unless-listed k p m o h pp mm d n =
+    let t = tickOf k p m o in
+    let i = opcodeAt p (k .pc) in
+    let j = withInhibit k false in
+    let s = withEnd theManual in
+    end-alone theManual k p m o h pp mm refl
+    ∙ ap (λ (b : Bool). pick b (step theManual k j p m) (tickBy s k p m o)) d
+    ∙ equals-by-switches s k p m o h pp mm refl
+    ∙ unless (executes t) (listedBy all i) (told t) (changed s j i (told t)) n (λ e. unlisted all s j i (told t) e)

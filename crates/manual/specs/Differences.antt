@@ -1,5 +1,5 @@
 -- What each switch, turned off, changes of what an instruction does with every switch on, and at which instructions.
-use mathlib.Core.Bool.{Bool, true, false, _&&_}
+use mathlib.Core.Bool.{Bool, true, false, _&&_, _||_}
 use mathlib.Core.List.{List, [], _∷_}
 use Prim.Native.Nat.{ℕ, _+_}
 use lib.Dec.{eqb}
@@ -37,6 +37,11 @@ lists outside i = oneOf (SLEEP ∷ WDR ∷ BREAK ∷ []) i
 lists end i = false
 lists target i = oneOf (CALL 0 ∷ JMP 0 ∷ []) i
 lists pointers i = stepsItsOwn i
+
+-- a switch of l lists i
+abbrev pub listedBy : List Switch → Instruction → Bool
+listedBy [] i = false
+listedBy (w ∷ l) i = lists w i || listedBy l i
 
 -- ---- what is changed
 -- V by bit 7 of the high byte h that was: set where that was clear and the result's bit 15, which N has, is set; S with it
@@ -96,3 +101,7 @@ all = adiwV ∷ loads ∷ stores ∷ afterSei ∷ unknown ∷ outside ∷ end �
 -- what settings s say of instruction i from core k, by what is said with every switch on
 abbrev pub changed : Switches → Core → Instruction → Says → Says
 changed s k i x = changedBy all s k i x
+
+-- an instruction that a switch lists
+abbrev pub listed : Instruction → Bool
+listed i = listedBy all i

@@ -4,6 +4,7 @@
 --    executed, and not at all where the tick waited, entered, ended or was refused.
 -- 3. So each of the eight, turned off alone, changes what it names at the instructions it lists, and nothing else.
 -- 4. The ninth, the end, turned off, changes the ticks that end, and these alone: they execute what stands at PC 65,535.
+-- 5. With every switch off, which is the manual itself, the tick is 01's unless it ends or executes a listed instruction.
 -- Settings s, switch w, core k, program p, data m, offer o, tick t, instruction i.
 use mathlib.Core.Path.{_≡_}
 use mathlib.Core.Bool.{Bool, true, false, _&&_}
@@ -15,9 +16,9 @@ use Rattle.cores.specs.declared.Core.{Core}
 use Rattle.cores.specs.State.{Sound, Bytes, withInhibit}
 use Rattle.tick.specs.declared.Offer.{Offer}
 use Rattle.tick.specs.Tick.{Tick, numberOf, tickOf}
-use Rattle.manual.specs.Switches.{Switch, adiwV, loads, stores, afterSei, unknown, outside, end, target, pointers, Switches, theRust, turned, allBut}
+use Rattle.manual.specs.Switches.{Switch, adiwV, loads, stores, afterSei, unknown, outside, end, target, pointers, Switches, theRust, theManual, turned, allBut}
 use Rattle.manual.specs.Tick.{told, opcodeAt, step, tickBy}
-use Rattle.manual.specs.Differences.{lists, changes, changed}
+use Rattle.manual.specs.Differences.{lists, listed, changes, changed}
 
 -- the tick executed an instruction: answers 18 to 22
 abbrev pub executes : Tick → Bool
@@ -88,3 +89,11 @@ abbrev pub EndAlone : Type 0
 EndAlone =
     (s : Switches) (k : Core) (p m : List ℕ) (o : Offer) → Sound k → Bytes p → Bytes m → s end ≡ false
     → let t = tickOf k p m o in tickBy s k p m o ≡ pick (ended t) (step s k (withInhibit k false) p m) (tickBy (withEnd s) k p m o)
+
+-- ---- 5
+abbrev pub EqualsUnlessListed : Type 0
+EqualsUnlessListed =
+    (k : Core) (p m : List ℕ) (o : Offer) → Sound k → Bytes p → Bytes m
+    → let t = tickOf k p m o in
+    let i = opcodeAt p (k .pc) in
+    ended t ≡ false → executes t && listed i ≡ false → tickBy theManual k p m o ≡ told t
