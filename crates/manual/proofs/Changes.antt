@@ -3,7 +3,7 @@
 use mathlib.Core.Path.{_≡_, refl, ap}
 use mathlib.Core.Bool.{Bool, true, false, not, _||_}
 use mathlib.Core.List.{List}
-use Prim.Native.Nat.{ℕ, _+_, _%_, _-_, _<_}
+use Prim.Native.Nat.{ℕ, _+_, _%_, _<_}
 use lib.Dec.{eqb}
 use Rattle.basis.specs.Pick.{pick}
 use Rattle.basis.specs.Bit.{up, down}
@@ -12,11 +12,10 @@ use Rattle.instruction.specs.declared.Instruction.{Instruction}
 use Rattle.instruction.specs.declared.Instruction.the-variants.{ADC, ADD, ADIW, AND, ANDI, ASR, BCLR, BLD, BRBC, BRBS, BREAK, BSET, BST, CALL, CBI, COM, CP, CPC, CPI, CPSE, DEC, EOR, FMUL, FMULS, FMULSU, ICALL, IJMP, IN, INC, JMP, LDX, LDXinc, LDXdec, LDYinc, LDYdec, LDZinc, LDZdec, LDDY, LDDZ, LDI, LDS, LPM, LPMZ, LPMZinc, LSL, LSR, MOV, MOVW, MUL, MULS, MULSU, NEG, NOP, OR, ORI, OUT, POP, PUSH, RCALL, RET, RETI, RJMP, ROR, SBC, SBCI, SBI, SBIC, SBIS, SBIW, SBRC, SBRS, SLEEP, STX, STXdec, STXinc, STYdec, STYinc, STZdec, STZinc, STDY, STDZ, STS, SUB, SUBI, SWAP, WDR, UNDEF}
 use Rattle.cores.specs.declared.Core.{Core}
 use Rattle.cores.specs.State.{Out, out, reg, word, withReg, withWord, withSreg, withBusy, withPc, withSp, withInhibit}
-use Rattle.cores.specs.Flow.{wordPushed}
 use Rattle.cores.specs.Transfer.{dataOf}
 use Rattle.tick.specs.declared.Answer.{Answer}
 use Rattle.tick.specs.declared.Answer.the-variants.{Ran, Watchdog, Break}
-use Rattle.manual.specs.Notation.{_!_, _•_, _⊕_, bar, zero16, kept, is, row, bitTo, next, goes}
+use Rattle.manual.specs.Notation.{_!_, _•_, _⊕_, bar, zero16, kept, is, row, bitTo, STACK←, next, goes}
 use Rattle.manual.specs.Switches.{adiwV, loads, stores, afterSei, outside, target, pointers, Switches, theRust, Says, undefined, says, ran, ranOut, definedIf}
 use Rattle.manual.specs.Pointers.{X, Y, Z, isIn, load, loadInc, loadDec, store, storeInc, storeDec}
 use Rattle.manual.specs.AdcToCpse.{adiw, break, bset, call}
@@ -121,7 +120,7 @@ answer-by true a k m = refl
 answer-by false a k m = refl
 
 call-by : (on : Bool) (k : Core) (t : ℕ) (m : List ℕ)
-    → let called : ℕ → Out = λ t. wordPushed (goes k t 3) (up (k .pc) 2) m in
+    → let called : ℕ → Out = λ t. STACK← (goes k t 3) (up (k .pc) 2) m in
     ranOut (called (pick on (t % 65536) t)) ≡ pick on (ranOut (called (t % 65536))) (lands t (ranOut (called (t % 65536))))
 unfolding goes withPc withBusy withSp
 call-by true k t m = refl

@@ -1,12 +1,14 @@
 -- The manual's notation: bits of a register or a result, its Boolean operators, its table of flags, signed numbers, and what every page ends in.
 use mathlib.Core.Bool.{Bool, not, _&&_, _||_}
+use mathlib.Core.List.{List}
 use Prim.Native.Nat.{ℕ, _+_, _*_, _/_, _%_, _^_, _-_}
 use lib.Dec.{eqb}
 use lib.IntN.{ℤ, pos, negsuc}
+use lib.ListN.{getD, set}
 use Rattle.basis.specs.Pick.{pick}
-use Rattle.basis.specs.Bit.{one, up}
+use Rattle.basis.specs.Bit.{one, up, down}
 use Rattle.cores.specs.declared.Core.{Core}
-use Rattle.cores.specs.State.{withBusy, withPc}
+use Rattle.cores.specs.State.{Out, out, withBusy, withPc, withSp}
 
 -- R ! 3 is the manual's R3
 infixl 60 _!_
@@ -73,6 +75,15 @@ signed x = pick (x ! 7) (negsuc (255 - x)) (pos x)
 abbrev pub bits16 : ℤ → ℕ
 bits16 (pos n) = n % 65536
 bits16 (negsuc n) = 65535 - n % 65536
+
+-- ---- the stack, for a PC of 16 bits. 01: "calls, RET and RETI use the data bytes themselves"
+-- STACK ← v, SP ← SP - 2: the low byte at SP, then the high byte at SP - 1
+abbrev pub STACK← : Core → ℕ → List ℕ → Out
+STACK← k v m = out (withSp k (down (k .sp) 2)) (set (set m (k .sp) (v % 256)) (down (k .sp) 1) (v / 256))
+
+-- STACK, as what SP ← SP + 2 takes off it: the high byte at SP + 1, then the low byte at SP + 2
+abbrev pub STACK : Core → List ℕ → ℕ
+STACK k m = getD m (up (k .sp) 1) 0 * 256 + getD m (up (k .sp) 2) 0
 
 -- ---- where a page ends
 -- PC ← PC + n for an instruction of n words, in c cycles: the tick that executes it and c - 1 that wait

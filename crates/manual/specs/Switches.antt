@@ -51,13 +51,6 @@ turned w on s v = pick (eqb (place w) (place v)) on (s v)
 abbrev pub allBut : Switch → Switches
 allBut w = turned w false theRust
 
--- AVRxt: 2 cycles, and 1
-abbrev pub loadCycles : Switches → ℕ
-loadCycles s = pick (s loads) 3 2
-
-abbrev pub storeCycles : Switches → ℕ
-storeCycles s = pick (s stores) 2 1
-
 -- what an instruction does
 pub data Says : Type 0 where
   -- the manual leaves it undefined, or has an instruction there that this core lacks
