@@ -1,6 +1,6 @@
 -- The manual's pages from ADC to CPSE. Each says its operation, its words and its AVRxt cycles in the manual's letters, and then the same as a definition: k is
--- the core, d and r are the numbers of Rd and Rr, b is a bit's number (the manual's b and s), o an offset and t a target (its k), m the data, p the program and s
--- the settings of the switches.
+-- the core, d and r are the numbers of Rd and Rr, b is a bit's number (the manual's b and s), o an offset, t a target and a an address (its k), m the data, p the
+-- program and s the settings of the switches.
 use mathlib.Core.Bool.{Bool, true, false, not, _||_}
 use mathlib.Core.List.{List}
 use Prim.Native.Nat.{ℕ, _+_, _*_, _/_, _%_, _-_}

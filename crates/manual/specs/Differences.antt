@@ -26,7 +26,7 @@ stepsItsOwn i =
     (pick (oneOf (LDYinc 0 ∷ LDYdec 0 ∷ STYinc 0 ∷ STYdec 0 ∷ []) i) (isIn (field i) Y)
     (pick (oneOf (LDZinc 0 ∷ LDZdec 0 ∷ STZinc 0 ∷ STZdec 0 ∷ LPMZinc 0 ∷ []) i) (isIn (field i) Z) false))
 
--- switch w lists instruction i; the end at PC 65,535 is no instruction's
+-- switch w lists instruction i. The end at PC 65,535 is no instruction's
 abbrev pub lists : Switch → Instruction → Bool
 lists adiwV i = oneOf (ADIW 0 0 ∷ []) i
 lists loads i = oneOf (LDX 0 ∷ LDXinc 0 ∷ LDXdec 0 ∷ LDYinc 0 ∷ LDYdec 0 ∷ LDDY 0 0 ∷ LDZinc 0 ∷ LDZdec 0 ∷ LDDZ 0 0 ∷ []) i
@@ -95,6 +95,7 @@ abbrev pub changedBy : List Switch → Switches → Core → Instruction → Say
 changedBy [] s k i x = x
 changedBy (w ∷ l) s k i x = changedBy l s k i (pick (lists w i) (pick (s w) x (changes w k i x)) x)
 
+-- the nine; the end changes nothing here
 abbrev pub all : List Switch
 all = adiwV ∷ loads ∷ stores ∷ afterSei ∷ unknown ∷ outside ∷ end ∷ target ∷ pointers ∷ []
 

@@ -83,7 +83,7 @@ ori k d K =
 unfoldable pub out- : Core → ℕ → ℕ → List ℕ → Out
 out- k A r m = setDataOf (next k 1 1) A (reg k r) m
 
--- POP, pop register from stack: SP ← SP + 1, Rd ← STACK. 1 word, 2 cycles. STACK is here the byte of data space at SP, where 0x3D to 0x3F are SP and SREG by 01
+-- POP, pop register from stack: SP ← SP + 1, Rd ← STACK. 1 word, 2 cycles. STACK is here a byte of data space, at SP
 unfoldable pub pop : Core → ℕ → List ℕ → Core
 pop k d m =
     let k₁ = withSp (next k 1 2) (up (k .sp) 1) in

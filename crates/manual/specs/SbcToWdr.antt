@@ -53,7 +53,8 @@ sbic k A b two m = skips k (bar (getD m A 0 ! b)) two
 abbrev pub sbis : Core → ℕ → ℕ → Bool → List ℕ → Core
 sbis k A b two m = skips k (getD m A 0 ! b) two
 
--- SBIW, subtract immediate from word: Rd+1:Rd ← Rd+1:Rd - K. 1 word, 2 cycles
+-- SBIW, subtract immediate from word: Rd+1:Rd ← Rd+1:Rd - K. 1 word, 2 cycles. V is the two's complement overflow that the page asks for in words; not every
+-- edition prints its formula so
 unfoldable pub sbiw : Core → ℕ → ℕ → Core
 sbiw k d K =
     let Rdh7 = reg k (d + 1) ! 7 in

@@ -3,7 +3,7 @@
 -- 2. With the end at PC 65,535 on and the other eight switches set in any way, the tick is 01's, changed as specs/Differences.antt says where an instruction was
 --    executed, and not at all where the tick waited, entered, ended or was refused.
 -- 3. So each of the eight, turned off alone, changes what it names at the instructions it lists, and nothing else.
--- 4. The ninth, the end, turned off, changes the ticks that end, and these alone: they execute what stands at PC 65,535.
+-- 4. The ninth, the end, turned off, changes the ticks that end, and these alone: they execute what stands at PC 65,535, or refuse it.
 -- 5. With every switch off, which is the manual itself, the tick is 01's unless it ends or executes a listed instruction.
 -- Settings s, switch w, core k, program p, data m, offer o, tick t, instruction i.
 use mathlib.Core.Path.{_≡_}
@@ -41,7 +41,7 @@ EqualsBySwitches =
     tickBy s k p m o ≡ pick (executes t) (changed s (withInhibit k false) i (told t)) (told t)
 
 -- ---- 3
--- w alone off: its change where an instruction that it lists was executed, and none else
+-- w, one of the eight, alone off: its change where an instruction that it lists was executed, and none else
 abbrev pub Alone : Switch → Type 0
 Alone w =
     (k : Core) (p m : List ℕ) (o : Offer) → Sound k → Bytes p → Bytes m

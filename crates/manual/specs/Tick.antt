@@ -40,7 +40,7 @@ step s k j p m =
     let n = withFetch (fetched p (j .pc) i) (needs decodeOf (withPc j (j .pc + 1)) i p m) in
     unless n k m (instruction s two j i p m)
 
--- with the vector that is due, or none
+-- with the vector that is due, or none. With the end off, CALL, LDS, STS and a taken skip at PC 65,535 are still refused: the refusals are 01's
 unfoldable pub entersOrSteps : Switches → Core → List ℕ → List ℕ → Offer → Says
 entersOrSteps s k p m (Vector v) = told (entered k v m)
 entersOrSteps s k p m Nothing = let j = withInhibit k false in pick (s end && eqb (k .pc) 65535) (says End j m) (step s k j p m)
