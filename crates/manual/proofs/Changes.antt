@@ -134,7 +134,7 @@ jmp-by false k t m = refl
 -- ---- every instruction
 module _ (s : Switches) (two : Bool) (k : Core) (p m : List ℕ) (h : k .sreg < 256) where
   pub instruction-changed : (i : Instruction) → instruction s two k i p m ≡ changed s k i (instruction theRust two k i p m)
-  unfolding adiw break bset call jmp sleep wdr
+  unfolding adiw break bset call jmp sleep wdr changed
   instruction-changed (ADC d r) = refl
   instruction-changed (ADD d r) = refl
   instruction-changed (ADIW d K) = adiw-by (s adiwV) k d K m h

@@ -24,6 +24,7 @@ use Rattle.tick.specs.Tick as paper
 use Rattle.tick.specs.Tick.{Tick, gives, answerOf, decided, due, executedTick, stepped, ticked, tickOf}
 use Rattle.manual.specs.Switches.{end, Switches, Says, says}
 use Rattle.manual.specs.Tick.{told, unless, opcodeAt, step, entersOrSteps, tickBy}
+use Rattle.manual.specs.Differences.{changed}
 use Rattle.manual.specs.Statement.{ended, withEnd, EndAlone}
 use Rattle.manual.proofs.Changes.{instruction-changed}
 use Rattle.manual.proofs.Ticks.{of-refusals}
@@ -57,7 +58,7 @@ module _ (s : Switches) (p m : List ℕ) (k : Core) where
 
   -- ---- no instruction looks at the end
   step-same : k .sreg < 256 → step s k j p m ≡ step (withEnd s) k j p m
-  unfolding step withInhibit
+  unfolding step withInhibit changed
   step-same h =
       let i = opcodeAt p (k .pc) in
       let two = twoWords (opcodeAt p (k .pc + 1)) in

@@ -28,6 +28,7 @@ same false x = refl
 
 -- ---- 1
 all-on : (k : Core) (i : Instruction) (x : Says) → changed theRust k i x ≡ x
+unfolding changed
 all-on k i x = simp same
 
 pub equals-the-manual : EqualsTheManual
@@ -37,7 +38,7 @@ equals-the-manual k p m o h pp mm =
 
 -- ---- 3
 alone-changes : (w : Switch) (k : Core) (i : Instruction) (x : Says) → allBut w end ≡ true → changed (allBut w) (withInhibit k false) i x ≡ pick (lists w i) (changes w k i x) x
-unfolding withInhibit
+unfolding withInhibit changed
 alone-changes adiwV k i x n = simp same
 alone-changes loads k i x n = simp same
 alone-changes stores k i x n = simp same
@@ -101,6 +102,7 @@ unless true false x y n h = h refl
 unless false b x y n h = refl
 
 pub equals-unless-listed : EqualsUnlessListed
+unfolding changed
 equals-unless-listed k p m o h pp mm d n =
     let t = tickOf k p m o in
     let i = opcodeAt p (k .pc) in

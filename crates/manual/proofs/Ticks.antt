@@ -41,7 +41,7 @@ use Rattle.manual.proofs.Changes.{instruction-changed}
 abbrev pub after : Switches → Core → List ℕ → Tick → Says
 after s j p t = pick (executes t) (changed s j (opcodeAt p (j .pc)) (told t)) (told t)
 
--- ---- which ticks execute, and which end
+-- ---- which ticks execute
 executed-answers : (d : Done) (k : Core) (m : List ℕ) → executes (gives (answerOf d) k m) ≡ true
 executed-answers done.Ran k m = refl
 executed-answers done.Sleep k m = refl

@@ -100,7 +100,7 @@ abbrev pub all : List Switch
 all = adiwV ∷ loads ∷ stores ∷ afterSei ∷ unknown ∷ outside ∷ end ∷ target ∷ pointers ∷ []
 
 -- what settings s say of instruction i from core k, by what is said with every switch on
-abbrev pub changed : Switches → Core → Instruction → Says → Says
+unfoldable pub changed : Switches → Core → Instruction → Says → Says
 changed s k i x = changedBy all s k i x
 
 -- an instruction that a switch lists
