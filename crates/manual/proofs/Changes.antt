@@ -3,7 +3,7 @@
 use mathlib.Core.Path.{_≡_, refl, ap}
 use mathlib.Core.Bool.{Bool, true, false, not, _||_}
 use mathlib.Core.List.{List}
-use Prim.Native.Nat.{ℕ, _+_, _%_, _-_, _<_}
+use Prim.Native.Nat.{ℕ, _+_, _%_, _<_}
 use lib.Dec.{eqb}
 use Rattle.basis.specs.Pick.{pick}
 use Rattle.basis.specs.Bit.{up, down}
@@ -12,12 +12,11 @@ use Rattle.instruction.specs.declared.Instruction.{Instruction}
 use Rattle.instruction.specs.declared.Instruction.the-variants.{ADC, ADD, ADIW, AND, ANDI, ASR, BCLR, BLD, BRBC, BRBS, BREAK, BSET, BST, CALL, CBI, COM, CP, CPC, CPI, CPSE, DEC, EOR, FMUL, FMULS, FMULSU, ICALL, IJMP, IN, INC, JMP, LDX, LDXinc, LDXdec, LDYinc, LDYdec, LDZinc, LDZdec, LDDY, LDDZ, LDI, LDS, LPM, LPMZ, LPMZinc, LSL, LSR, MOV, MOVW, MUL, MULS, MULSU, NEG, NOP, OR, ORI, OUT, POP, PUSH, RCALL, RET, RETI, RJMP, ROR, SBC, SBCI, SBI, SBIC, SBIS, SBIW, SBRC, SBRS, SLEEP, STX, STXdec, STXinc, STYdec, STYinc, STZdec, STZinc, STDY, STDZ, STS, SUB, SUBI, SWAP, WDR, UNDEF}
 use Rattle.cores.specs.declared.Core.{Core}
 use Rattle.cores.specs.State.{Out, out, reg, word, withReg, withWord, withSreg, withBusy, withPc, withSp, withInhibit}
-use Rattle.cores.specs.Flow.{wordPushed}
 use Rattle.cores.specs.Transfer.{dataOf}
 use Rattle.tick.specs.declared.Answer.{Answer}
 use Rattle.tick.specs.declared.Answer.the-variants.{Ran, Watchdog, Break}
-use Rattle.manual.specs.Notation.{_!_, _•_, _⊕_, bar, zero16, kept, is, row, bitTo, next, goes}
-use Rattle.manual.specs.Switches.{Switches, theRust, Says, undefined, says, ran, ranOut, definedIf}
+use Rattle.manual.specs.Notation.{_!_, _•_, _⊕_, bar, zero16, kept, is, row, bitTo, STACK←, next, goes}
+use Rattle.manual.specs.Switches.{adiwV, loads, stores, afterSei, outside, target, pointers, Switches, theRust, Says, undefined, says, ran, ranOut, definedIf}
 use Rattle.manual.specs.Pointers.{X, Y, Z, isIn, load, loadInc, loadDec, store, storeInc, storeDec}
 use Rattle.manual.specs.AdcToCpse.{adiw, break, bset, call}
 use Rattle.manual.specs.DecToLsr.{jmp}
@@ -121,7 +120,7 @@ answer-by true a k m = refl
 answer-by false a k m = refl
 
 call-by : (on : Bool) (k : Core) (t : ℕ) (m : List ℕ)
-    → let called : ℕ → Out = λ t. wordPushed (goes k t 3) (up (k .pc) 2) m in
+    → let called : ℕ → Out = λ t. STACK← (goes k t 3) (up (k .pc) 2) m in
     ranOut (called (pick on (t % 65536) t)) ≡ pick on (ranOut (called (t % 65536))) (lands t (ranOut (called (t % 65536))))
 unfolding goes withPc withBusy withSp
 call-by true k t m = refl
@@ -135,10 +134,10 @@ jmp-by false k t m = refl
 -- ---- every instruction
 module _ (s : Switches) (two : Bool) (k : Core) (p m : List ℕ) (h : k .sreg < 256) where
   pub instruction-changed : (i : Instruction) → instruction s two k i p m ≡ changed s k i (instruction theRust two k i p m)
-  unfolding adiw break bset call jmp sleep wdr
+  unfolding adiw break bset call jmp sleep wdr changed
   instruction-changed (ADC d r) = refl
   instruction-changed (ADD d r) = refl
-  instruction-changed (ADIW d K) = adiw-by (s .adiwV) k d K m h
+  instruction-changed (ADIW d K) = adiw-by (s adiwV) k d K m h
   instruction-changed (AND d r) = refl
   instruction-changed (ANDI d K) = refl
   instruction-changed (ASR d) = refl
@@ -146,10 +145,10 @@ module _ (s : Switches) (two : Bool) (k : Core) (p m : List ℕ) (h : k .sreg < 
   instruction-changed (BLD d b) = refl
   instruction-changed (BRBC b o) = refl
   instruction-changed (BRBS b o) = refl
-  instruction-changed BREAK = answer-by (s .outside) Break (next k 1 1) m
-  instruction-changed (BSET b) = sei-by (s .afterSei) (eqb b 7) (withSreg (next k 1 1) (bitTo (k .sreg) b true)) m
+  instruction-changed BREAK = answer-by (s outside) Break (next k 1 1) m
+  instruction-changed (BSET b) = sei-by (s afterSei) (eqb b 7) (withSreg (next k 1 1) (bitTo (k .sreg) b true)) m
   instruction-changed (BST d b) = refl
-  instruction-changed (CALL t) = call-by (s .target) k t m
+  instruction-changed (CALL t) = call-by (s target) k t m
   instruction-changed (CBI A b) = refl
   instruction-changed (COM d) = refl
   instruction-changed (CP d r) = refl
@@ -165,21 +164,21 @@ module _ (s : Switches) (two : Bool) (k : Core) (p m : List ℕ) (h : k .sreg < 
   instruction-changed IJMP = refl
   instruction-changed (IN d A) = refl
   instruction-changed (INC d) = refl
-  instruction-changed (JMP t) = jmp-by (s .target) k t m
-  instruction-changed (LDX d) = load-by (s .loads) k d X 0 m
-  instruction-changed (LDXinc d) = defined-by (s .pointers) (isIn d X) (load-inc-by (s .loads) k d X m)
-  instruction-changed (LDXdec d) = defined-by (s .pointers) (isIn d X) (load-dec-by (s .loads) k d X m)
-  instruction-changed (LDYinc d) = defined-by (s .pointers) (isIn d Y) (load-inc-by (s .loads) k d Y m)
-  instruction-changed (LDYdec d) = defined-by (s .pointers) (isIn d Y) (load-dec-by (s .loads) k d Y m)
-  instruction-changed (LDZinc d) = defined-by (s .pointers) (isIn d Z) (load-inc-by (s .loads) k d Z m)
-  instruction-changed (LDZdec d) = defined-by (s .pointers) (isIn d Z) (load-dec-by (s .loads) k d Z m)
-  instruction-changed (LDDY d q) = load-by (s .loads) k d Y q m
-  instruction-changed (LDDZ d q) = load-by (s .loads) k d Z q m
+  instruction-changed (JMP t) = jmp-by (s target) k t m
+  instruction-changed (LDX d) = load-by (s loads) k d X 0 m
+  instruction-changed (LDXinc d) = defined-by (s pointers) (isIn d X) (load-inc-by (s loads) k d X m)
+  instruction-changed (LDXdec d) = defined-by (s pointers) (isIn d X) (load-dec-by (s loads) k d X m)
+  instruction-changed (LDYinc d) = defined-by (s pointers) (isIn d Y) (load-inc-by (s loads) k d Y m)
+  instruction-changed (LDYdec d) = defined-by (s pointers) (isIn d Y) (load-dec-by (s loads) k d Y m)
+  instruction-changed (LDZinc d) = defined-by (s pointers) (isIn d Z) (load-inc-by (s loads) k d Z m)
+  instruction-changed (LDZdec d) = defined-by (s pointers) (isIn d Z) (load-dec-by (s loads) k d Z m)
+  instruction-changed (LDDY d q) = load-by (s loads) k d Y q m
+  instruction-changed (LDDZ d q) = load-by (s loads) k d Z q m
   instruction-changed (LDI d K) = refl
   instruction-changed (LDS d a) = refl
   instruction-changed LPM = refl
   instruction-changed (LPMZ d) = refl
-  instruction-changed (LPMZinc d) = defined-by (s .pointers) (isIn d Z) refl
+  instruction-changed (LPMZinc d) = defined-by (s pointers) (isIn d Z) refl
   instruction-changed (LSL d) = refl
   instruction-changed (LSR d) = refl
   instruction-changed (MOV d r) = refl
@@ -208,18 +207,18 @@ module _ (s : Switches) (two : Bool) (k : Core) (p m : List ℕ) (h : k .sreg < 
   instruction-changed (SBRC r b) = refl
   instruction-changed (SBRS r b) = refl
   instruction-changed SLEEP = refl
-  instruction-changed (STX r) = store-by (s .stores) k r X 0 m
-  instruction-changed (STXdec r) = defined-by (s .pointers) (isIn r X) (store-dec-by (s .stores) k r X m)
-  instruction-changed (STXinc r) = defined-by (s .pointers) (isIn r X) (store-inc-by (s .stores) k r X m)
-  instruction-changed (STYdec r) = defined-by (s .pointers) (isIn r Y) (store-dec-by (s .stores) k r Y m)
-  instruction-changed (STYinc r) = defined-by (s .pointers) (isIn r Y) (store-inc-by (s .stores) k r Y m)
-  instruction-changed (STZdec r) = defined-by (s .pointers) (isIn r Z) (store-dec-by (s .stores) k r Z m)
-  instruction-changed (STZinc r) = defined-by (s .pointers) (isIn r Z) (store-inc-by (s .stores) k r Z m)
-  instruction-changed (STDY q r) = store-by (s .stores) k r Y q m
-  instruction-changed (STDZ q r) = store-by (s .stores) k r Z q m
+  instruction-changed (STX r) = store-by (s stores) k r X 0 m
+  instruction-changed (STXdec r) = defined-by (s pointers) (isIn r X) (store-dec-by (s stores) k r X m)
+  instruction-changed (STXinc r) = defined-by (s pointers) (isIn r X) (store-inc-by (s stores) k r X m)
+  instruction-changed (STYdec r) = defined-by (s pointers) (isIn r Y) (store-dec-by (s stores) k r Y m)
+  instruction-changed (STYinc r) = defined-by (s pointers) (isIn r Y) (store-inc-by (s stores) k r Y m)
+  instruction-changed (STZdec r) = defined-by (s pointers) (isIn r Z) (store-dec-by (s stores) k r Z m)
+  instruction-changed (STZinc r) = defined-by (s pointers) (isIn r Z) (store-inc-by (s stores) k r Z m)
+  instruction-changed (STDY q r) = store-by (s stores) k r Y q m
+  instruction-changed (STDZ q r) = store-by (s stores) k r Z q m
   instruction-changed (STS a r) = refl
   instruction-changed (SUB d r) = refl
   instruction-changed (SUBI d K) = refl
   instruction-changed (SWAP d) = refl
-  instruction-changed WDR = answer-by (s .outside) Watchdog (next k 1 1) m
+  instruction-changed WDR = answer-by (s outside) Watchdog (next k 1 1) m
   instruction-changed UNDEF = refl

@@ -21,38 +21,21 @@ use Rattle.manual.specs.Witnesses.{Witnesses, Agreements}
 
 pub witnesses : Witnesses
 unfolding bit put decodeOf nopToAddOf mulsuToFmulsuOf cpseToAdcOf andToMovOf immediateOf displacedOf loadOf storeOf oneRegisterOf controlOf indirectOf wordImmediateOf portBitOf portOf relativeOf branchOrBitOf registerBitOf programWordOf hasWordOf matched freshOf withReg withPc withBusy withInhibit znvs cznvs reachOf dataOf setDataOf pointedOf wordIf paper.entersOrSteps stepped ticked arms manualDecode zero8 row bitTo next goes load loadInc store adiw break bset jmp sleep wdr step entersOrSteps tickBy
-witnesses = (
-  record { by-manual = refl; by-port = refl },
-  (
-    record { by-manual = refl; by-port = refl },
-    (
-      record { by-manual = refl; by-port = refl },
-      (
-        record { by-manual = refl; by-port = refl },
-        (
-          record { by-manual = refl; by-port = refl },
-          (
-            record { by-manual = refl; by-port = refl },
-            (
-              record { by-manual = refl; by-port = refl },
-              (
-                record { by-manual = refl; by-port = refl },
-                (
-                  record { by-manual = refl; by-port = refl },
-                  (
-                    record { by-manual = refl; by-port = refl },
-                    record { by-manual = refl; by-port = refl },
-                  ),
-                ),
-              ),
-            ),
-          ),
-        ),
-      ),
-    ),
-  ),
-)
+witnesses =
+    record {
+      adiw = record { by-manual = refl; by-port = refl };
+      load = record { by-manual = refl; by-port = refl };
+      store = record { by-manual = refl; by-port = refl };
+      sei = record { by-manual = refl; by-port = refl };
+      unknown-word = record { by-manual = refl; by-port = refl };
+      sleep = record { by-manual = refl; by-port = refl };
+      wdr = record { by-manual = refl; by-port = refl };
+      break = record { by-manual = refl; by-port = refl };
+      at-the-end = record { by-manual = refl; by-port = refl };
+      jmp = record { by-manual = refl; by-port = refl };
+      stepped = record { by-manual = refl; by-port = refl };
+    }
 
 pub agreements : Agreements
 unfolding bit decodeOf nopToAddOf mulsuToFmulsuOf cpseToAdcOf andToMovOf immediateOf displacedOf loadOf storeOf oneRegisterOf controlOf indirectOf wordImmediateOf portBitOf portOf relativeOf branchOrBitOf registerBitOf programWordOf hasWordOf matched freshOf withReg withPc withBusy withInhibit reachOf dataOf setDataOf paper.entersOrSteps stepped ticked arms manualDecode next step entersOrSteps tickBy withSp pop push
-agreements = (record { by-manual = refl; by-port = refl }, record { by-manual = refl; by-port = refl })
+agreements = record { pop = record { by-manual = refl; by-port = refl }; push = record { by-manual = refl; by-port = refl } }

@@ -1,5 +1,6 @@
--- The manual's pages from ADC to CPSE. Each says its operation, its words and its AVRxt cycles, and then the same as a definition: k is the core, d and r are
--- the numbers of Rd and Rr, and a row of flags is in the table's order, I T H S V N Z C.
+-- The manual's pages from ADC to CPSE. Each says its operation, its words and its AVRxt cycles in the manual's letters, and then the same as a definition: k is
+-- the core, d and r are the numbers of Rd and Rr, b is a bit's number (the manual's b and s), o an offset, t a target and a an address (its k), m the data, p the
+-- program and s the settings of the switches.
 use mathlib.Core.Bool.{Bool, true, false, not, _||_}
 use mathlib.Core.List.{List}
 use Prim.Native.Nat.{ℕ, _+_, _*_, _/_, _%_, _-_}
@@ -9,11 +10,10 @@ use lib.ListN.{getD, set}
 use Rattle.basis.specs.Pick.{pick}
 use Rattle.basis.specs.Bit.{one, up}
 use Rattle.cores.specs.declared.Core.{Core}
-use Rattle.cores.specs.State.{Out, reg, word, withReg, withWord, withSreg, withInhibit}
-use Rattle.cores.specs.Flow.{wordPushed}
+use Rattle.cores.specs.State.{Out, out, reg, word, withReg, withWord, withSreg, withInhibit}
 use Rattle.tick.specs.declared.Answer.the-variants.{Ran, Break}
-use Rattle.manual.specs.Notation.{_!_, _•_, _⊹_, _⊕_, bar, zero8, zero16, kept, is, row, bitTo, carry, next, goes}
-use Rattle.manual.specs.Switches.{Switches, Says, says}
+use Rattle.manual.specs.Notation.{_!_, _•_, _⊹_, _⊕_, bar, zero8, zero16, kept, is, row, bitTo, carry, STACK←, next, goes}
+use Rattle.manual.specs.Switches.{Switches, adiwV, outside, afterSei, target, Says, says}
 
 -- ADC, add with carry: Rd ← Rd + Rr + C. 1 word, 1 cycle
 unfoldable pub adc : Core → ℕ → ℕ → Core
@@ -48,7 +48,7 @@ unfoldable pub adiw : Switches → Core → ℕ → ℕ → Core
 adiw s k d K =
     let Rdh7 = reg k (d + 1) ! 7 in
     let R = (word k d + K) % 65536 in
-    let «V» = bar (pick (s .adiwV) (reg k d ! 7) Rdh7) • R ! 15 in
+    let «V» = bar (pick (s adiwV) (reg k d ! 7) Rdh7) • R ! 15 in
     let N = R ! 15 in
     let S = N ⊕ «V» in
     let Z = zero16 R in
@@ -89,7 +89,7 @@ asr k d =
 
 -- BCLR, bit clear in SREG: SREG(s) ← 0. 1 word, 1 cycle. CLC CLZ CLN CLV CLS CLH CLT CLI are its aliases
 unfoldable pub bclr : Core → ℕ → Core
-bclr k s = withSreg (next k 1 1) (bitTo (k .sreg) s false)
+bclr k b = withSreg (next k 1 1) (bitTo (k .sreg) b false)
 
 -- BLD, bit load from T into a register's bit: Rd(b) ← T. 1 word, 1 cycle
 unfoldable pub bld : Core → ℕ → ℕ → Core
@@ -101,34 +101,35 @@ branchTarget k o = (k .pc + o + 1 + 65536 - one (o ! 7) * 256) % 65536
 
 -- BRBC, branch if bit in SREG is cleared: if SREG(s) = 0 then PC ← PC + k + 1, else PC ← PC + 1. 1 word, 2 cycles if taken, else 1
 unfoldable pub brbc : Core → ℕ → ℕ → Core
-brbc k s o = pick (bar (k .sreg ! s)) (goes k (branchTarget k o) 2) (next k 1 1)
+brbc k b o = pick (bar (k .sreg ! b)) (goes k (branchTarget k o) 2) (next k 1 1)
 
 -- BRBS, branch if bit in SREG is set: if SREG(s) = 1 then PC ← PC + k + 1, else PC ← PC + 1. 1 word, 2 cycles if taken, else 1
 unfoldable pub brbs : Core → ℕ → ℕ → Core
-brbs k s o = pick (k .sreg ! s) (goes k (branchTarget k o) 2) (next k 1 1)
+brbs k b o = pick (k .sreg ! b) (goes k (branchTarget k o) 2) (next k 1 1)
 
 -- BREAK: a break for the on-chip debug system. 1 word, 1 cycle. With the debug system off the CPU treats it as a NOP, and so does this page; the Rust stops
 unfoldable pub break : Switches → Core → List ℕ → Says
-break s k m = says (pick (s .outside) Break Ran) (next k 1 1) m
+break s k m = says (pick (s outside) Break Ran) (next k 1 1) m
 
 -- BSET, bit set in SREG: SREG(s) ← 1. 1 word, 1 cycle. SEC SEZ SEN SEV SES SEH SET SEI are its aliases.
 -- SEI: the instruction behind it is executed before any pending interrupt, which is what inhibit is for
 unfoldable pub bset : Switches → Core → ℕ → Core
 bset s k b =
     let k₁ = withSreg (next k 1 1) (bitTo (k .sreg) b true) in
-    pick (s .afterSei || not (eqb b 7)) k₁ (withInhibit k₁ true)
+    pick (s afterSei || not (eqb b 7)) k₁ (withInhibit k₁ true)
 
 -- BST, bit store from a register's bit to T: T ← Rd(b). 1 word, 1 cycle
 unfoldable pub bst : Core → ℕ → ℕ → Core
 bst k d b = withSreg (next k 1 1) (row (k .sreg) kept (is (reg k d ! b)) kept kept kept kept kept kept)
 
--- CALL, long call to a subroutine: STACK ← PC + 2, SP ← SP - 2, PC ← k. 2 words, 3 cycles. The Rust drops the target's bits above the 16th
+-- CALL, long call to a subroutine: STACK ← PC + 2, SP ← SP - 2, PC ← k. 2 words, 3 cycles. Stack and cycles are those of variant (i), a PC of 16 bits; the
+-- target is the long one, of 22 bits. The Rust drops the target's bits above the 16th
 unfoldable pub call : Switches → Core → ℕ → List ℕ → Out
-call s k t m = wordPushed (goes k (pick (s .target) (t % 65536) t) 3) (up (k .pc) 2) m
+call s k t m = STACK← (goes k (pick (s target) (t % 65536) t) 3) (up (k .pc) 2) m
 
 -- CBI, clear bit in I/O register: I/O(A,b) ← 0. 1 word, 1 cycle
-unfoldable pub cbi : ℕ → ℕ → List ℕ → List ℕ
-cbi A b m = set m A (bitTo (getD m A 0) b false)
+unfoldable pub cbi : Core → ℕ → ℕ → List ℕ → Out
+cbi k A b m = out (next k 1 1) (set m A (bitTo (getD m A 0) b false))
 
 -- COM, one's complement: Rd ← $FF - Rd. 1 word, 1 cycle
 unfoldable pub «com» : Core → ℕ → Core

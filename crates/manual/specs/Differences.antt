@@ -1,6 +1,6 @@
 -- What each switch, turned off, changes of what an instruction does with every switch on, and at which instructions.
-use mathlib.Core.Bool.{Bool, true, false, _&&_}
-use mathlib.Core.List.{[], _∷_}
+use mathlib.Core.Bool.{Bool, true, false, _&&_, _||_}
+use mathlib.Core.List.{List, [], _∷_}
 use Prim.Native.Nat.{ℕ, _+_}
 use lib.Dec.{eqb}
 use Rattle.basis.specs.Pick.{pick}
@@ -11,7 +11,7 @@ use Rattle.cores.specs.declared.Core.{Core}
 use Rattle.cores.specs.State.{reg, withSreg, withBusy, withPc, withInhibit}
 use Rattle.tick.specs.declared.Answer.the-variants.{Ran}
 use Rattle.manual.specs.Notation.{_!_, _•_, _⊕_, bar, kept, is, row}
-use Rattle.manual.specs.Switches.{Switches, Says, undefined, sleeps, says}
+use Rattle.manual.specs.Switches.{Switch, adiwV, loads, stores, afterSei, unknown, outside, end, target, pointers, Switches, Says, undefined, sleeps, says}
 use Rattle.manual.specs.Pointers.{X, Y, Z, isIn}
 
 -- ---- at which instructions
@@ -19,33 +19,29 @@ use Rattle.manual.specs.Pointers.{X, Y, Z, isIn}
 abbrev pub field : Instruction → ℕ
 field i = code i .1
 
-abbrev pub isAdiw : Instruction → Bool
-isAdiw i = oneOf (ADIW 0 0 ∷ []) i
-
-abbrev pub isPointerLoad : Instruction → Bool
-isPointerLoad i = oneOf (LDX 0 ∷ LDXinc 0 ∷ LDXdec 0 ∷ LDYinc 0 ∷ LDYdec 0 ∷ LDDY 0 0 ∷ LDZinc 0 ∷ LDZdec 0 ∷ LDDZ 0 0 ∷ []) i
-
-abbrev pub isPointerStore : Instruction → Bool
-isPointerStore i = oneOf (STX 0 ∷ STXinc 0 ∷ STXdec 0 ∷ STYinc 0 ∷ STYdec 0 ∷ STDY 0 0 ∷ STZinc 0 ∷ STZdec 0 ∷ STDZ 0 0 ∷ []) i
-
-abbrev pub isSei : Instruction → Bool
-isSei i = oneOf (BSET 0 ∷ []) i && eqb (field i) 7
-
-abbrev pub isUnknown : Instruction → Bool
-isUnknown i = oneOf (UNDEF ∷ []) i
-
-abbrev pub isOutside : Instruction → Bool
-isOutside i = oneOf (SLEEP ∷ WDR ∷ BREAK ∷ []) i
-
-abbrev pub isLong : Instruction → Bool
-isLong i = oneOf (CALL 0 ∷ JMP 0 ∷ []) i
-
 -- a load into, or a store from, the pointer that it steps: LPM Z+ too
-abbrev pub isSteppedPointer : Instruction → Bool
-isSteppedPointer i =
+abbrev pub stepsItsOwn : Instruction → Bool
+stepsItsOwn i =
     pick (oneOf (LDXinc 0 ∷ LDXdec 0 ∷ STXinc 0 ∷ STXdec 0 ∷ []) i) (isIn (field i) X)
     (pick (oneOf (LDYinc 0 ∷ LDYdec 0 ∷ STYinc 0 ∷ STYdec 0 ∷ []) i) (isIn (field i) Y)
     (pick (oneOf (LDZinc 0 ∷ LDZdec 0 ∷ STZinc 0 ∷ STZdec 0 ∷ LPMZinc 0 ∷ []) i) (isIn (field i) Z) false))
+
+-- switch w lists instruction i. The end at PC 65,535 is no instruction's
+abbrev pub lists : Switch → Instruction → Bool
+lists adiwV i = oneOf (ADIW 0 0 ∷ []) i
+lists loads i = oneOf (LDX 0 ∷ LDXinc 0 ∷ LDXdec 0 ∷ LDYinc 0 ∷ LDYdec 0 ∷ LDDY 0 0 ∷ LDZinc 0 ∷ LDZdec 0 ∷ LDDZ 0 0 ∷ []) i
+lists stores i = oneOf (STX 0 ∷ STXinc 0 ∷ STXdec 0 ∷ STYinc 0 ∷ STYdec 0 ∷ STDY 0 0 ∷ STZinc 0 ∷ STZdec 0 ∷ STDZ 0 0 ∷ []) i
+lists afterSei i = oneOf (BSET 0 ∷ []) i && eqb (field i) 7
+lists unknown i = oneOf (UNDEF ∷ []) i
+lists outside i = oneOf (SLEEP ∷ WDR ∷ BREAK ∷ []) i
+lists end i = false
+lists target i = oneOf (CALL 0 ∷ JMP 0 ∷ []) i
+lists pointers i = stepsItsOwn i
+
+-- a switch of l lists i
+abbrev pub listedBy : List Switch → Instruction → Bool
+listedBy [] i = false
+listedBy (w ∷ l) i = lists w i || listedBy l i
 
 -- ---- what is changed
 -- V by bit 7 of the high byte h that was: set where that was clear and the result's bit 15, which N has, is set; S with it
@@ -82,18 +78,31 @@ plainly i (sleeps k m) = sleeps k m
 plainly i (says a k m) = pick (oneOf (SLEEP ∷ []) i) (sleeps k m) (says Ran k m)
 
 -- ---- each switch
--- x, changed by f where the instruction is listed and the switch is off
-abbrev pub unlessOn : Bool → Bool → (Says → Says) → Says → Says
-unlessOn listed on f x = pick listed (pick on x (f x)) x
+-- what switch w, turned off, makes of what is said of an instruction i that it lists, from core k
+abbrev pub changes : Switch → Core → Instruction → Says → Says
+changes adiwV k i x = overflowBy (reg k (field i + 1)) x
+changes loads k i x = waits 1 x
+changes stores k i x = waits 0 x
+changes afterSei k i x = inhibits x
+changes unknown k i x = undefined
+changes outside k i x = plainly i x
+changes end k i x = x
+changes target k i x = lands (field i) x
+changes pointers k i x = undefined
 
--- what s says of instruction i from core k, by what is said with every switch on; the end at PC 65,535 is no instruction's
-abbrev pub changed : Switches → Core → Instruction → Says → Says
-changed s k i x =
-    unlessOn (isSteppedPointer i) (s .pointers) (λ y. undefined)
-    (unlessOn (isUnknown i) (s .unknown) (λ y. undefined)
-    (unlessOn (isOutside i) (s .outside) (λ y. plainly i y)
-    (unlessOn (isLong i) (s .target) (λ y. lands (field i) y)
-    (unlessOn (isSei i) (s .afterSei) (λ y. inhibits y)
-    (unlessOn (isPointerStore i) (s .stores) (λ y. waits 0 y)
-    (unlessOn (isPointerLoad i) (s .loads) (λ y. waits 1 y)
-    (unlessOn (isAdiw i) (s .adiwV) (λ y. overflowBy (reg k (field i + 1)) y) x)))))))
+-- by the switches of l, each where s has it off and it lists i
+abbrev pub changedBy : List Switch → Switches → Core → Instruction → Says → Says
+changedBy [] s k i x = x
+changedBy (w ∷ l) s k i x = changedBy l s k i (pick (lists w i) (pick (s w) x (changes w k i x)) x)
+
+-- the nine; the end changes nothing here
+abbrev pub all : List Switch
+all = adiwV ∷ loads ∷ stores ∷ afterSei ∷ unknown ∷ outside ∷ end ∷ target ∷ pointers ∷ []
+
+-- what settings s say of instruction i from core k, by what is said with every switch on
+unfoldable pub changed : Switches → Core → Instruction → Says → Says
+changed s k i x = changedBy all s k i x
+
+-- an instruction that a switch lists
+abbrev pub listed : Instruction → Bool
+listed i = listedBy all i

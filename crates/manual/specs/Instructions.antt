@@ -7,7 +7,7 @@ use Rattle.instruction.specs.declared.Instruction.the-variants.{ADC, ADD, ADIW,
 use Rattle.cores.specs.declared.Core.{Core}
 use Rattle.tick.specs.declared.Answer.the-variants.{Undefined}
 use Rattle.manual.specs.Notation.{next}
-use Rattle.manual.specs.Switches.{Switches, Says, says, ran, ranOut, definedIf}
+use Rattle.manual.specs.Switches.{Switches, unknown, Says, says, ran, ranOut, definedIf}
 use Rattle.manual.specs.AdcToCpse.{adc, add, adiw, and, andi, asr, bclr, bld, brbc, brbs, break, bset, bst, call, cbi, «com», cp, cpc, cpi, cpse}
 use Rattle.manual.specs.DecToLsr.{dec, eor, fmul, fmuls, fmulsu, icall, ijmp, in-, inc, jmp, ldX, ldXinc, ldXdec, ldYinc, ldYdec, lddY, ldZinc, ldZdec, lddZ, ldi, lds, lpm, lpmInc, lsr}
 use Rattle.manual.specs.MovToRor.{mov, movw, mul, muls, mulsu, neg, nop, or, ori, out-, pop, push, rcall, ret, reti, rjmp, ror}
@@ -29,7 +29,7 @@ instruction s two k BREAK p m = break s k m
 instruction s two k (BSET b) p m = ran (bset s k b) m
 instruction s two k (BST d b) p m = ran (bst k d b) m
 instruction s two k (CALL t) p m = ranOut (call s k t m)
-instruction s two k (CBI A b) p m = ran (next k 1 1) (cbi A b m)
+instruction s two k (CBI A b) p m = ranOut (cbi k A b m)
 instruction s two k (COM d) p m = ran («com» k d) m
 instruction s two k (CP d r) p m = ran (cp k d r) m
 instruction s two k (CPC d r) p m = ran (cpc k d r) m
@@ -80,7 +80,7 @@ instruction s two k (RJMP o) p m = ran (rjmp k o) m
 instruction s two k (ROR d) p m = ran (ror k d) m
 instruction s two k (SBC d r) p m = ran (sbc k d r) m
 instruction s two k (SBCI d K) p m = ran (sbci k d K) m
-instruction s two k (SBI A b) p m = ran (next k 1 1) (sbi A b m)
+instruction s two k (SBI A b) p m = ranOut (sbi k A b m)
 instruction s two k (SBIC A b) p m = ran (sbic k A b two m) m
 instruction s two k (SBIS A b) p m = ran (sbis k A b two m) m
 instruction s two k (SBIW d K) p m = ran (sbiw k d K) m
@@ -101,4 +101,4 @@ instruction s two k (SUB d r) p m = ran (sub k d r) m
 instruction s two k (SUBI d K) p m = ran (subi k d K) m
 instruction s two k (SWAP d) p m = ran (swap k d) m
 instruction s two k WDR p m = wdr s k m
-instruction s two k UNDEF p m = definedIf (s .unknown) (says Undefined (next k 1 1) m)
+instruction s two k UNDEF p m = definedIf (s unknown) (says Undefined (next k 1 1) m)

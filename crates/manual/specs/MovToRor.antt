@@ -4,13 +4,11 @@ use mathlib.Core.List.{List}
 use Prim.Native.Nat.{ℕ, _+_, _*_, _/_, _%_, _-_}
 use lib.Bits.{bitOr}
 use lib.IntN.{_*ℤ_}
-use lib.ListN.{getD}
 use Rattle.basis.specs.Bit.{up, down}
 use Rattle.cores.specs.declared.Core.{Core}
 use Rattle.cores.specs.State.{Out, out, reg, word, withReg, withWord, withSreg, withSp, withInhibit, withService}
-use Rattle.cores.specs.Flow.{wordPushed}
 use Rattle.cores.specs.Transfer.{dataOf, setDataOf}
-use Rattle.manual.specs.Notation.{_!_, _•_, _⊹_, _⊕_, bar, zero8, zero16, kept, is, row, carry, signed, unsigned, bits16, next, goes}
+use Rattle.manual.specs.Notation.{_!_, _•_, _⊹_, _⊕_, bar, zero8, zero16, kept, is, row, carry, signed, unsigned, bits16, STACK←, STACK, next, goes}
 
 -- MOV, copy register: Rd ← Rr. 1 word, 1 cycle
 unfoldable pub mov : Core → ℕ → ℕ → Core
@@ -85,13 +83,13 @@ ori k d K =
 unfoldable pub out- : Core → ℕ → ℕ → List ℕ → Out
 out- k A r m = setDataOf (next k 1 1) A (reg k r) m
 
--- POP, pop register from stack: SP ← SP + 1, Rd ← STACK. 1 word, 2 cycles
+-- POP, pop register from stack: SP ← SP + 1, Rd ← STACK. 1 word, 2 cycles. STACK is here a byte of data space, at SP
 unfoldable pub pop : Core → ℕ → List ℕ → Core
 pop k d m =
     let k₁ = withSp (next k 1 2) (up (k .sp) 1) in
     withReg k₁ d (dataOf k₁ (k₁ .sp) m)
 
--- PUSH, push register on stack: STACK ← Rr, SP ← SP - 1. 1 word, 1 cycle
+-- PUSH, push register on stack: STACK ← Rr, SP ← SP - 1. 1 word, 1 cycle. STACK as for POP
 unfoldable pub push : Core → ℕ → List ℕ → Out
 push k r m =
     let o = setDataOf (next k 1 1) (k .sp) (reg k r) m in
@@ -103,17 +101,17 @@ relativeTarget k o = (k .pc + o + 1) % 65536
 
 -- RCALL, relative call to a subroutine: STACK ← PC + 1, SP ← SP - 2, PC ← PC + k + 1. 1 word, 2 cycles
 unfoldable pub rcall : Core → ℕ → List ℕ → Out
-rcall k o m = wordPushed (goes k (relativeTarget k o) 2) (up (k .pc) 1) m
+rcall k o m = STACK← (goes k (relativeTarget k o) 2) (up (k .pc) 1) m
 
 -- RET, return from subroutine: PC ← STACK, SP ← SP + 2. 1 word, 4 cycles
 unfoldable pub ret : Core → List ℕ → Core
-ret k m = withSp (goes k (getD m (up (k .sp) 1) 0 * 256 + getD m (up (k .sp) 2) 0) 4) (up (k .sp) 2)
+ret k m = withSp (goes k (STACK k m) 4) (up (k .sp) 2)
 
 -- RETI, return from interrupt: PC ← STACK, SP ← SP + 2. 1 word, 4 cycles. On AVRxt RETI does not set I, as entry did not clear it.
 -- What it tells the interrupt controller is 01's: in-service falls, and one instruction runs before the next entry
 unfoldable pub reti : Core → List ℕ → Core
 reti k m =
-    let k₁ = withSp (goes k (getD m (up (k .sp) 1) 0 * 256 + getD m (up (k .sp) 2) 0) 4) (up (k .sp) 2) in
+    let k₁ = withSp (goes k (STACK k m) 4) (up (k .sp) 2) in
     withInhibit (withService k₁ false) true
 
 -- RJMP, relative jump: PC ← PC + k + 1. 1 word, 2 cycles

@@ -1,14 +1,29 @@
--- The manual's notation: bits of a register or a result, its Boolean operators, its table of flags, signed numbers, and what every page ends in.
+-- The manual's notation: bits of a register or a result, its Boolean operators, its table of flags, signed numbers, the stack, and what every page ends in.
+-- The manual is the AVR Instruction Set Manual, DS40002198, by its AVRxt column. No copy was at hand: the pages are from knowledge of the document, and
+-- docs/DIFFERENCES.md says what they were checked against. Its signs, of which editions print some in two ways, and how they stand here:
+--   R3, Rd3, Rr3, K3     R ! 3, Rd ! 3, Rr ! 3, K ! 3: bit 3 of the result, of a register, of a constant
+--   • or ∧ between bits  a • b, and
+--   + or ∨ between bits  a ⊹ b, or; + itself adds numbers
+--   ⊕                    a ⊕ b, exclusive or; in the operation of EOR `bitXor`, as `bitAnd` and `bitOr` in those of AND and OR
+--   a bar over a bit     bar a, not
+--   a row of flags       row, its eight entries in the order I T H S V N Z C: kept for –, is x for a flag that becomes x. V is written «V», since V is a word
+--                        of the language
+--   Rd ← x               withReg k d x; Rd+1:Rd ← x is withWord k d x
+--   (X), I/O(A)          dataOf, and left of an arrow setDataOf: a byte of data space, where 0x3D to 0x3F are SP and SREG by 01
+--   STACK ← PC + 1       STACK← k (up (k .pc) 1) m, and SP ← SP - 2 with it; in PC ← STACK, STACK k m
+--   PC ← PC + 1, cycles  next k 1 c; PC ← x is goes k x c
 use mathlib.Core.Bool.{Bool, not, _&&_, _||_}
+use mathlib.Core.List.{List}
 use Prim.Native.Nat.{ℕ, _+_, _*_, _/_, _%_, _^_, _-_}
 use lib.Dec.{eqb}
 use lib.IntN.{ℤ, pos, negsuc}
+use lib.ListN.{getD, set}
 use Rattle.basis.specs.Pick.{pick}
-use Rattle.basis.specs.Bit.{one, up}
+use Rattle.basis.specs.Bit.{one, up, down}
 use Rattle.cores.specs.declared.Core.{Core}
-use Rattle.cores.specs.State.{withBusy, withPc}
+use Rattle.cores.specs.State.{Out, out, withBusy, withPc, withSp}
 
--- R ! 3 is the manual's R3
+-- bit i of x
 infixl 60 _!_
 abbrev pub _!_ : ℕ → ℕ → Bool
 _!_ x i = eqb (x / 2 ^ i % 2) 1
@@ -25,7 +40,6 @@ infixl 32 _⊕_
 abbrev pub _⊕_ : Bool → Bool → Bool
 _⊕_ a b = pick a (not b) b
 
--- the bar over a bit
 abbrev pub bar : Bool → Bool
 bar a = not a
 
@@ -37,7 +51,7 @@ abbrev pub zero16 : ℕ → Bool
 zero16 R = zero8 (R / 256) • zero8 (R % 256)
 
 -- ---- the table of flags
--- an entry: `–`, or what the flag becomes
+-- an entry
 pub data Mark : Type 0 where
   kept : Mark
   is : Bool → Mark
@@ -73,6 +87,15 @@ signed x = pick (x ! 7) (negsuc (255 - x)) (pos x)
 abbrev pub bits16 : ℤ → ℕ
 bits16 (pos n) = n % 65536
 bits16 (negsuc n) = 65535 - n % 65536
+
+-- ---- the stack, for a PC of 16 bits. 01: "calls, RET and RETI use the data bytes themselves"
+-- STACK ← v, SP ← SP - 2: the low byte at SP, then the high byte at SP - 1
+abbrev pub STACK← : Core → ℕ → List ℕ → Out
+STACK← k v m = out (withSp k (down (k .sp) 2)) (set (set m (k .sp) (v % 256)) (down (k .sp) 1) (v / 256))
+
+-- STACK, as what SP ← SP + 2 takes off it: the high byte at SP + 1, then the low byte at SP + 2
+abbrev pub STACK : Core → List ℕ → ℕ
+STACK k m = getD m (up (k .sp) 1) 0 * 256 + getD m (up (k .sp) 2) 0
 
 -- ---- where a page ends
 -- PC ← PC + n for an instruction of n words, in c cycles: the tick that executes it and c - 1 that wait

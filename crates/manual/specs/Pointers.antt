@@ -19,11 +19,11 @@ Y = 28
 abbrev pub Z : ℕ
 Z = 30
 
--- register d is a byte of the pointer P: where P is stepped, the result is undefined
+-- register d is a byte of the pointer P: where P is stepped, the manual leaves the result undefined, and these pages the whole tick
 abbrev pub isIn : ℕ → ℕ → Bool
 isIn d P = eqb d P || eqb d (P + 1)
 
--- Rd ← (P + q)
+-- Rd ← (P + q). The sum is 01's, "not wrapped": it may lie beyond 65,535, here and in `store`
 unfoldable pub load : ℕ → Core → ℕ → ℕ → ℕ → List ℕ → Core
 load c k d P q m = withReg (next k 1 c) d (dataOf k (word k P + q) m)
 

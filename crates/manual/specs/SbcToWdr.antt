@@ -5,11 +5,11 @@ use Prim.Native.Nat.{ℕ, _+_, _*_, _/_, _%_, _-_}
 use lib.ListN.{getD, set}
 use Rattle.basis.specs.Pick.{pick}
 use Rattle.cores.specs.declared.Core.{Core}
-use Rattle.cores.specs.State.{Out, reg, word, withReg, withWord, withSreg}
+use Rattle.cores.specs.State.{Out, out, reg, word, withReg, withWord, withSreg}
 use Rattle.cores.specs.Transfer.{setDataOf}
 use Rattle.tick.specs.declared.Answer.the-variants.{Ran, Sleep, Watchdog}
 use Rattle.manual.specs.Notation.{_!_, _•_, _⊹_, _⊕_, bar, zero8, zero16, kept, is, row, bitTo, carry, next}
-use Rattle.manual.specs.Switches.{Switches, Says, sleeps, says, ranOut, definedIf, storeCycles}
+use Rattle.manual.specs.Switches.{Switches, stores, outside, pointers, Says, sleeps, says, ranOut, definedIf}
 use Rattle.manual.specs.Pointers as at
 use Rattle.manual.specs.Pointers.{isIn, store, storeInc, storeDec}
 use Rattle.manual.specs.AdcToCpse.{skips}
@@ -42,8 +42,8 @@ sbci k d K =
     withSreg (withReg (next k 1 1) d R) (row (k .sreg) kept kept (is H) (is S) (is «V») (is N) (is Z) (is C))
 
 -- SBI, set bit in I/O register: I/O(A,b) ← 1. 1 word, 1 cycle
-unfoldable pub sbi : ℕ → ℕ → List ℕ → List ℕ
-sbi A b m = set m A (bitTo (getD m A 0) b true)
+unfoldable pub sbi : Core → ℕ → ℕ → List ℕ → Out
+sbi k A b m = out (next k 1 1) (set m A (bitTo (getD m A 0) b true))
 
 -- SBIC, skip if bit in I/O register is cleared: if I/O(A,b) = 0 then PC ← PC + 2 (or 3), else PC ← PC + 1. 1 word, 1, 2 or 3 cycles
 abbrev pub sbic : Core → ℕ → ℕ → Bool → List ℕ → Core
@@ -53,7 +53,8 @@ sbic k A b two m = skips k (bar (getD m A 0 ! b)) two
 abbrev pub sbis : Core → ℕ → ℕ → Bool → List ℕ → Core
 sbis k A b two m = skips k (getD m A 0 ! b) two
 
--- SBIW, subtract immediate from word: Rd+1:Rd ← Rd+1:Rd - K. 1 word, 2 cycles
+-- SBIW, subtract immediate from word: Rd+1:Rd ← Rd+1:Rd - K. 1 word, 2 cycles. V is the two's complement overflow that the page asks for in words; not every
+-- edition prints its formula so
 unfoldable pub sbiw : Core → ℕ → ℕ → Core
 sbiw k d K =
     let Rdh7 = reg k (d + 1) ! 7 in
@@ -75,37 +76,37 @@ sbrs k r b two = skips k (reg k r ! b) two
 
 -- SLEEP: the core goes to sleep. 1 word, 1 cycle. The Rust goes on, with an answer
 unfoldable pub sleep : Switches → Core → List ℕ → Says
-sleep s k m = pick (s .outside) (says Sleep (next k 1 1) m) (sleeps (next k 1 1) m)
+sleep s k m = pick (s outside) (says Sleep (next k 1 1) m) (sleeps (next k 1 1) m)
 
--- ST using X: (X) ← Rr; (X) ← Rr, X ← X + 1; X ← X - 1, (X) ← Rr. 1 word, 1 cycle. ST of r26 and r27 by X+ and -X are undefined
+-- ST using X: (X) ← Rr; (X) ← Rr, X ← X + 1; X ← X - 1, (X) ← Rr. 1 word, 1 cycle; in the Rust 2. ST of r26 and r27 by X+ and -X are undefined
 abbrev pub stX : Switches → Core → ℕ → List ℕ → Says
-stX s k r m = ranOut (store (storeCycles s) k r at.X 0 m)
+stX s k r m = ranOut (store (pick (s stores) 2 1) k r at.X 0 m)
 
 abbrev pub stXinc : Switches → Core → ℕ → List ℕ → Says
-stXinc s k r m = definedIf (s .pointers || not (isIn r at.X)) (ranOut (storeInc (storeCycles s) k r at.X m))
+stXinc s k r m = definedIf (s pointers || not (isIn r at.X)) (ranOut (storeInc (pick (s stores) 2 1) k r at.X m))
 
 abbrev pub stXdec : Switches → Core → ℕ → List ℕ → Says
-stXdec s k r m = definedIf (s .pointers || not (isIn r at.X)) (ranOut (storeDec (storeCycles s) k r at.X m))
+stXdec s k r m = definedIf (s pointers || not (isIn r at.X)) (ranOut (storeDec (pick (s stores) 2 1) k r at.X m))
 
--- ST, STD using Y: (Y) ← Rr, Y ← Y + 1; Y ← Y - 1, (Y) ← Rr; (Y + q) ← Rr, q 0 for ST. 1 word, 1 cycle. ST of r28 and r29 by Y+ and -Y are undefined
+-- ST, STD using Y: (Y) ← Rr, Y ← Y + 1; Y ← Y - 1, (Y) ← Rr; (Y + q) ← Rr, q 0 for ST. 1 word, 1 cycle; in the Rust 2. ST of r28 and r29 by Y+ and -Y are undefined
 abbrev pub stYinc : Switches → Core → ℕ → List ℕ → Says
-stYinc s k r m = definedIf (s .pointers || not (isIn r at.Y)) (ranOut (storeInc (storeCycles s) k r at.Y m))
+stYinc s k r m = definedIf (s pointers || not (isIn r at.Y)) (ranOut (storeInc (pick (s stores) 2 1) k r at.Y m))
 
 abbrev pub stYdec : Switches → Core → ℕ → List ℕ → Says
-stYdec s k r m = definedIf (s .pointers || not (isIn r at.Y)) (ranOut (storeDec (storeCycles s) k r at.Y m))
+stYdec s k r m = definedIf (s pointers || not (isIn r at.Y)) (ranOut (storeDec (pick (s stores) 2 1) k r at.Y m))
 
 abbrev pub stdY : Switches → Core → ℕ → ℕ → List ℕ → Says
-stdY s k q r m = ranOut (store (storeCycles s) k r at.Y q m)
+stdY s k q r m = ranOut (store (pick (s stores) 2 1) k r at.Y q m)
 
--- ST, STD using Z: (Z) ← Rr, Z ← Z + 1; Z ← Z - 1, (Z) ← Rr; (Z + q) ← Rr, q 0 for ST. 1 word, 1 cycle. ST of r30 and r31 by Z+ and -Z are undefined
+-- ST, STD using Z: (Z) ← Rr, Z ← Z + 1; Z ← Z - 1, (Z) ← Rr; (Z + q) ← Rr, q 0 for ST. 1 word, 1 cycle; in the Rust 2. ST of r30 and r31 by Z+ and -Z are undefined
 abbrev pub stZinc : Switches → Core → ℕ → List ℕ → Says
-stZinc s k r m = definedIf (s .pointers || not (isIn r at.Z)) (ranOut (storeInc (storeCycles s) k r at.Z m))
+stZinc s k r m = definedIf (s pointers || not (isIn r at.Z)) (ranOut (storeInc (pick (s stores) 2 1) k r at.Z m))
 
 abbrev pub stZdec : Switches → Core → ℕ → List ℕ → Says
-stZdec s k r m = definedIf (s .pointers || not (isIn r at.Z)) (ranOut (storeDec (storeCycles s) k r at.Z m))
+stZdec s k r m = definedIf (s pointers || not (isIn r at.Z)) (ranOut (storeDec (pick (s stores) 2 1) k r at.Z m))
 
 abbrev pub stdZ : Switches → Core → ℕ → ℕ → List ℕ → Says
-stdZ s k q r m = ranOut (store (storeCycles s) k r at.Z q m)
+stdZ s k q r m = ranOut (store (pick (s stores) 2 1) k r at.Z q m)
 
 -- STS, store direct to data space: (k) ← Rr. 2 words, 2 cycles
 unfoldable pub sts : Core → ℕ → ℕ → List ℕ → Out
@@ -144,4 +145,4 @@ swap k d = withReg (next k 1 1) d (reg k d % 16 * 16 + reg k d / 16)
 
 -- WDR, watchdog reset: the watchdog timer, which is no part of this core, is reset. 1 word, 1 cycle. The Rust answers watchdog
 unfoldable pub wdr : Switches → Core → List ℕ → Says
-wdr s k m = says (pick (s .outside) Watchdog Ran) (next k 1 1) m
+wdr s k m = says (pick (s outside) Watchdog Ran) (next k 1 1) m

@@ -2,6 +2,7 @@
 use mathlib.Core.Bool.{Bool, true, false}
 use mathlib.Core.List.{List}
 use Prim.Native.Nat.{ℕ}
+use lib.Dec.{eqb}
 use Rattle.basis.specs.Pick.{pick}
 use Rattle.cores.specs.declared.Core.{Core}
 use Rattle.cores.specs.State.{Out}
@@ -9,29 +10,46 @@ use Rattle.tick.specs.declared.Answer.{Answer}
 use Rattle.tick.specs.declared.Answer.the-variants.{Ran}
 
 -- where a switch is on the Rust's way stands, where it is off the manual's
-pub record Switches : Type 0 where
-  pub adiwV : Bool  -- ADIW's V, by bit 7 of the word
-  pub loads : Bool  -- pointer loads wait for 2 ticks
-  pub stores : Bool  -- pointer stores wait for 1 tick
-  pub afterSei : Bool  -- no safe instruction after SEI
-  pub unknown : Bool  -- words that decode doesn't know are no-ops
-  pub outside : Bool  -- SLEEP and WDR are no-ops with an answer; BREAK stops
-  pub end : Bool  -- PC 65,535 is the end
-  pub target : Bool  -- target bits of CALL and JMP above the 16th are dropped
-  pub pointers : Bool  -- a load into, or a store from, a stepped pointer goes in the order written
+pub data Switch : Type 0 where
+  adiwV : Switch  -- ADIW's V, by bit 7 of the word
+  loads : Switch  -- pointer loads wait for 2 ticks
+  stores : Switch  -- pointer stores wait for 1 tick
+  afterSei : Switch  -- no safe instruction after SEI
+  unknown : Switch  -- words that decode doesn't know are no-ops
+  outside : Switch  -- SLEEP and WDR are no-ops with an answer; BREAK stops
+  end : Switch  -- PC 65,535 is the end
+  target : Switch  -- target bits of CALL and JMP above the 16th are dropped
+  pointers : Switch  -- a load into, or a store from, a stepped pointer goes in the order written
+
+-- how each switch is set: true is on
+abbrev pub Switches : Type 0
+Switches = Switch → Bool
 
 abbrev pub theRust : Switches
-theRust = record { adiwV = true; loads = true; stores = true; afterSei = true; unknown = true; outside = true; end = true; target = true; pointers = true }
+theRust w = true
 
 abbrev pub theManual : Switches
-theManual = record { adiwV = false; loads = false; stores = false; afterSei = false; unknown = false; outside = false; end = false; target = false; pointers = false }
+theManual w = false
 
--- AVRxt: 2 cycles, and 1
-abbrev pub loadCycles : Switches → ℕ
-loadCycles s = pick (s .loads) 3 2
+-- a switch's place in the list
+abbrev pub place : Switch → ℕ
+place adiwV = 1
+place loads = 2
+place stores = 3
+place afterSei = 4
+place unknown = 5
+place outside = 6
+place end = 7
+place target = 8
+place pointers = 9
 
-abbrev pub storeCycles : Switches → ℕ
-storeCycles s = pick (s .stores) 2 1
+-- the settings s, with switch w on or off instead
+abbrev pub turned : Switch → Bool → Switches → Switches
+turned w on s v = pick (eqb (place w) (place v)) on (s v)
+
+-- every switch on but w
+abbrev pub allBut : Switch → Switches
+allBut w = turned w false theRust
 
 -- what an instruction does
 pub data Says : Type 0 where

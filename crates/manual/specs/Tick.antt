@@ -17,7 +17,7 @@ use Rattle.tick.specs.declared.Offer.the-variants.{Vector, Nothing}
 use Rattle.tick.specs.declared.Answer.the-variants.{Refused, Waited, End}
 use Rattle.tick.specs.Tick.{Tick, due, entered}
 use Rattle.manual_opcodes.specs.Opcodes.{manualDecode}
-use Rattle.manual.specs.Switches.{Switches, Says, says}
+use Rattle.manual.specs.Switches.{Switches, end, Says, says}
 use Rattle.manual.specs.Instructions.{instruction}
 
 -- what 01 says
@@ -35,15 +35,15 @@ opcodeAt p pc = manualDecode (programWordOf p pc) (programWordOf p (pc + 1))
 -- j is k with inhibit clear; k is handed back where the step is refused
 unfoldable pub step : Switches → Core → Core → List ℕ → List ℕ → Says
 step s k j p m =
-    let op = opcodeAt p (j .pc) in
+    let i = opcodeAt p (j .pc) in
     let two = twoWords (opcodeAt p (j .pc + 1)) in
-    let n = withFetch (fetched p (j .pc) op) (needs decodeOf (withPc j (j .pc + 1)) op p m) in
-    unless n k m (instruction s two j op p m)
+    let n = withFetch (fetched p (j .pc) i) (needs decodeOf (withPc j (j .pc + 1)) i p m) in
+    unless n k m (instruction s two j i p m)
 
--- with the vector that is due, or none
+-- with the vector that is due, or none. With the end off, CALL, LDS, STS and a taken skip at PC 65,535 are still refused: the refusals are 01's
 unfoldable pub entersOrSteps : Switches → Core → List ℕ → List ℕ → Offer → Says
 entersOrSteps s k p m (Vector v) = told (entered k v m)
-entersOrSteps s k p m Nothing = let j = withInhibit k false in pick (s .end && eqb (k .pc) 65535) (says End j m) (step s k j p m)
+entersOrSteps s k p m Nothing = let j = withInhibit k false in pick (s end && eqb (k .pc) 65535) (says End j m) (step s k j p m)
 
 -- core k, program p, data m, offer o
 unfoldable pub tickBy : Switches → Core → List ℕ → List ℕ → Offer → Says

@@ -8,7 +8,7 @@ use Rattle.table.specs.Calls.{RegistersByTheTable, WritesByTheTable, ReadsByThe
 use Rattle.source_decode.specs.RustDecode.{DecodesAsTheRust}
 use Rattle.source.specs.Statement.{EqualsTheRust, RefusedExactlyWhereItPanics, CodeEqualsTheRust, InPlaceEqualsTheRust}
 use Rattle.manual_opcodes.specs.Opcodes.{DecodesAsTheManual}
-use Rattle.manual.specs.Statement.{EqualsTheManual, EqualsBySwitches, AdiwAlone, LoadsAlone, StoresAlone, SeiAlone, UnknownAlone, OutsideAlone, EndAlone, TargetAlone, PointersAlone}
+use Rattle.manual.specs.Statement.{EqualsTheManual, EqualsBySwitches, AdiwAlone, LoadsAlone, StoresAlone, SeiAlone, UnknownAlone, OutsideAlone, EndAlone, TargetAlone, PointersAlone, EqualsUnlessListed}
 use Rattle.manual.specs.Witnesses.{Witnesses}
 use Rattle.promises.specs.OneOutcome.{OneOutcome}
 use Rattle.promises.specs.BenchSheet.{BenchSheet}
@@ -62,6 +62,8 @@ pub record Demand2 : Type 0 where
   pub end : EndAlone
   pub target : TargetAlone
   pub pointers : PointersAlone
+  -- and the manual itself, off the list
+  pub unless-listed : EqualsUnlessListed
   -- crates/manual/specs/Witnesses.antt
   pub witnesses : Witnesses
   -- crates/run/specs/Run.antt
