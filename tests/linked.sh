@@ -28,6 +28,18 @@ says_first() { # COMMAND...: prints what README says of the first program
     [ "$("$@")" = 'answer 22 after 4 ticks, R16 is 5' ]
 }
 
+says_what_to_run() { # host/rust, with no archive, names the command that writes it
+    said=$(AVR_CORE_LIB=$work/nowhere cargo build --quiet --offline --release --manifest-path host/rust/Cargo.toml --target-dir target/cargo 2>&1)
+    [ $? != 0 ] && echo "$said" | grep -q 'run `rt staticlib host`'
+}
+
+if command -v cargo >/dev/null && command -v cc >/dev/null; then
+    says_what_to_run
+    note $? 'host/rust without the archive'
+else
+    echo 'not run: host/rust without the archive: no cargo, or no cc'
+fi
+
 make_archive
 
 if can_link host/c cc; then
