@@ -24,9 +24,40 @@ listed_otherwise() {
     ! tools/contracts "$made" >/dev/null
 }
 
+make_crates() ( # `top` uses `code`, `stated` and `proved`, says why it has `typed`, and has `said` only in comments; nobody uses its law
+    rm -rf "$made"
+    mkdir -p "$made/crates/top/src" "$made/crates/top/proofs/next" "$made/crates/proved/proofs"
+    cd "$made" || exit
+    printf '# a comment: none\ntop: code stated proved typed said # typed: a local has its type\nproved: # said\n' >crates.txt
+    printf '// said::x\nuse code::Core;\nghost use Rattle.stated.specs.State.{reg};\n' >crates/top/src/lib.rt
+    printf 'use Rattle.proved.proofs.Laws.{law}\n' >crates/top/proofs/next/Proof.antt
+    printf 'pub mod Unused\npub mod End\n' >crates/top/proofs/Lib.antt
+    printf -- '-- use Rattle.said.specs.State.{reg}\npub law : (x : N) → x ≡ x\n' >crates/top/proofs/Unused.antt
+    printf 'pub ends : EndsAsPromised\n' >crates/top/proofs/End.antt
+    printf 'pub law : (x : N) → x ≡ x\n' >crates/proved/proofs/Laws.antt
+)
+
+finds_what_is_unused() {
+    make_crates
+    printf '%s\n' 'crates.txt: top does not use said' 'crates/top/proofs/Unused.antt: nobody uses it' >"$work/faults"
+    tools/dependencies "$made" >"$work/said"
+    [ $? = 1 ] && cmp -s "$work/faults" "$work/said"
+}
+
+passes_what_is_used() {
+    make_crates
+    rm "$made/crates/top/proofs/Unused.antt"
+    printf 'top: code stated proved\nproved:\n' >"$made/crates.txt"
+    tools/dependencies "$made" >"$work/said" && [ ! -s "$work/said" ]
+}
+
 for sample in tests/contracts/*.sample; do
     as_it_says "$sample"
     note $? "$sample"
 done
 listed_otherwise
 note $? 'tools/contracts on a function that is listed otherwise'
+finds_what_is_unused
+note $? 'tools/dependencies on what nobody uses'
+passes_what_is_used
+note $? 'tools/dependencies on what is used'
