@@ -51,6 +51,21 @@ passes_what_is_used() {
     tools/dependencies "$made" >"$work/said" && [ ! -s "$work/said" ]
 }
 
+make_sources() { # TEXT SUM: a repository that lists two files by this sum, beside a folder that has one of them with this text
+    rm -rf "$made" "$work/shared"
+    mkdir -p "$made/docs" "$work/shared"
+    printf '%s' "$1" >"$work/shared/01.md"
+    printf '| `%s` | `%s` | x |\n' 01.md "$2" 02.md "$2" >"$made/docs/SOURCES.md"
+}
+
+holds_sums() {
+    sum=$(printf right | sha256sum)
+    make_sources right "${sum%% *}"
+    tools/sources "$made" >"$work/said" && grep -q 'not there: ../shared/02.md' "$work/said" || return 1
+    make_sources wrong "${sum%% *}"
+    ! tools/sources "$made" >"$work/said" && grep -q '../shared/01.md is not the file' "$work/said"
+}
+
 for sample in tests/contracts/*.sample; do
     as_it_says "$sample"
     note $? "$sample"
@@ -61,3 +76,5 @@ finds_what_is_unused
 note $? 'tools/dependencies on what nobody uses'
 passes_what_is_used
 note $? 'tools/dependencies on what is used'
+holds_sums
+note $? 'tools/sources'
