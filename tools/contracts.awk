@@ -1,11 +1,36 @@
-# Prints a row of docs/CONTRACTS.md for each public function of a file of Rattle, and its faults to standard error.
-function fault(text) { print FILENAME ": " name ": " text > "/dev/stderr" }
+# Prints a row of docs/CONTRACTS.md for each public function of a file of Rattle, and its faults to standard error. What it does not understand is a fault.
+# The file is in the layout of `rt fmt`.
+BEGIN {
+    # a clause's form, and the law of crates/promises/specs/OneOutcome.antt by which it pins what it speaks of:
+    # D is a definition over what was there before the call, r the result, x a buffer before and x′ after it
+    rules["r ≡ D"] = rules["x′ ≡ D"] = "equation"
+    rules["Leaves D r x′"] = "leaves"
+    rules["Executes D r x′"] = "executes"
+    rules["Ticks D r x′"] = "ticks"
+    rules["Ticks D (inPlace r x′) x′"] = "ticks-in-place"
+    rules["Runs D r x′"] = "runs"
+    rules["Writes D r x′"] = "writes"
+    rules["Prints D x r x′"] = "prints"
+    rules["Tells D r x′ x′"] = "tells"
+    rules["TellsTicks D r x′ x′ x′"] = "tells-ticks"
+    # where what the forms are written in is defined
+    homes["_≡_"] = "mathlib.Core.Path"
+    homes["Leaves"] = "Rattle.cores.specs.State"
+    homes["Executes"] = "Rattle.execute.specs.Execute"
+    homes["Ticks"] = homes["inPlace"] = "Rattle.tick.specs.Tick"
+    homes["Runs"] = "Rattle.run.specs.Run"
+    homes["Writes"] = "Rattle.snapshot.specs.Snapshot"
+    homes["Prints"] = "Rattle.tracing.specs.Trace"
+    homes["Tells"] = homes["TellsTicks"] = "Rattle.host.specs.Host"
+}
 
-# what a contract says, in short: x for a buffer's bytes before, x' for them after
+function fault(text) { print FILENAME ": " (inside ? name : $0) ": " text > "/dev/stderr" }
+
+# what a contract says, in short: x for a buffer's bytes before, x′ for them after
 function plain(text) {
     gsub(/«/, "", text); gsub(/»/, "", text)
-    text = shortened(text, "\\(?now \\([a-z_]+ \\.entry\\)", "")
-    return shortened(text, "\\(?now \\([a-z_]+ \\.exit\\)", "′")
+    text = shortened(text, "\\(?now \\([A-Za-z0-9_]+ \\.entry\\)", "")
+    return shortened(text, "\\(?now \\([A-Za-z0-9_]+ \\.exit\\)", "′")
 }
 
 function shortened(text, pattern, mark,    word, rest) {
@@ -20,68 +45,146 @@ function shortened(text, pattern, mark,    word, rest) {
     return text
 }
 
-# the law of crates/promises/specs/OneOutcome.antt by which a clause pins what it speaks of; bound is the name of the result in it. A clause that pins nothing has none
-function law(text, bound,    left) {
-    if (match(text, / ≡ /)) {
-        left = substr(text, 1, RSTART - 1)
-        if (left ~ /^[a-z_]+(′)?$/ && (left == bound || left ~ /′$/) && !mentions(substr(text, RSTART + RLENGTH), left)) return "equation"
+# splits a text at the blanks that stand in no parentheses
+function arguments(text, parts,    count, depth, at, c) {
+    split("", parts)
+    count = 1
+    for (at = 1; at <= length(text); at++) {
+        c = substr(text, at, 1)
+        depth += (c == "(") - (c == ")")
+        if (c == " " && depth == 0) count++
+        else parts[count] = parts[count] c
     }
-    if (text ~ /^Ticks .*inPlace/) return "ticks-in-place"
-    if (text ~ /^TellsTicks /) return "tells-ticks"
-    if (text ~ /^(Leaves|Executes|Ticks|Runs|Writes|Tells|Prints) /) { sub(/ .*/, "", text); return tolower(text) }
-    return ""
+    return count
 }
 
-function mentions(text, name) {
+function form(text, bound,    parts, count, at, found) {
+    count = arguments(text, parts)
+    if (parts[2] == "≡") return letter(parts[1], bound) " ≡ " definition(substr(text, index(text, " ≡ ") + length(" ≡ ")), bound)
+    found = parts[1] " " definition(parts[2], bound)
+    for (at = 3; at <= count; at++) found = found " " letter(parts[at], bound)
+    return found
+}
+
+function letter(part, bound,    two) {
+    if (part == bound && bound != "_") return "r"
+    if (part ~ /^[A-Za-z_][A-Za-z0-9_]*$/) return "x"
+    if (part ~ /^[A-Za-z_][A-Za-z0-9_]*′$/) return "x′"
+    if (sub(/^\(inPlace /, "", part) && sub(/\)$/, "", part) && split(part, two, " ") == 2)
+        return "(inPlace " letter(two[1], bound) " " letter(two[2], bound) ")"
+    return "?"
+}
+
+# D where the text is names, numbers and sums of them, and none of them is there only after the call
+function definition(text, bound) {
+    if (text ~ /′|\.exit/ || mentions(text, bound)) return "after"
+    if (mentions(text, "_")) return "?"
+    gsub(/∷|·/, "", text)
+    return text ~ /^[]A-Za-z0-9_ .,;=()[{}+*-]+$/ ? "D" : "?"
+}
+
+function mentions(text, word) {
+    gsub(/[^A-Za-z0-9_]/, " ", text)
+    return index(" " text " ", " " word " ") > 0
+}
+
+# the clause that this line is
+function clause(    text, bound, shape) {
+    text = $0
+    sub(/^ ensures ([A-Za-z0-9_-]+ )?\{ λ /, "", text)
+    bound = text; sub(/\..*/, "", bound)
+    sub(/^[A-Za-z0-9_]*\. ⌜ /, "", text); sub(/ ⌝ \}$/, "", text)
+    text = plain(text)
+    contract = contract (contract == "" ? "" : "; ") text
+    shape = form(text, bound)
+    if (shape in rules) pin(text, shape)
+    else if (sub(/ after/, " D", shape) && shape in rules) fault("its definition mentions the result or a buffer after the call")
+    else fault("no law makes one outcome of `" text "`")
+}
+
+function pin(text, shape) {
     gsub(/[()]/, " ", text)
-    return index(" " text " ", " " name " ") > 0
+    pinned = pinned " " text " "
+    if (shape ~ /(^|[ (])r /) told = 1
+    if (index(", " laws ",", ", " rules[shape] ",") == 0) laws = laws (laws == "" ? "" : ", ") rules[shape]
 }
 
-function finish(    found, mutable) {
-    if (head ~ /requires/) fault("has a requires")
-    if (contract == "") fault("has no ensures")
-    else if (laws == "") fault("no law makes its outcome one")
+function finish() {
+    if (contract == "" && !broken) fault("has no ensures")
     if (head ~ /->/ && !told) fault("says nothing of its result")
-    mutable = head
-    while (match(mutable, /[a-z_]+: &mut/)) {
-        found = substr(mutable, RSTART, RLENGTH - 6)
-        if (index(contract, found "′") == 0) fault("says nothing of " found " afterwards")
-        mutable = substr(mutable, RSTART + RLENGTH)
-    }
+    if (head ~ /[A-Z][A-Za-z0-9_]*<'/) fault("has a struct that holds a reference, which this tool does not read")
+    lent(head)
     print "| `" crate "` | `" (type == "" ? "" : type "::") name "` | `" contract "` | " laws " |"
     inside = 0
 }
 
+# every lent buffer has to be pinned
+function lent(head,    found) {
+    gsub(/&'[a-z_]+ mut /, "\\&mut ", head); sub(/&mut self/, "self: \\&mut Self", head)
+    while (match(head, /[A-Za-z0-9_]+: &mut /)) {
+        found = substr(head, RSTART, RLENGTH - length(": &mut "))
+        if (index(pinned, " " found "′ ") == 0) fault("says nothing of " found " afterwards")
+        head = substr(head, 1, RSTART - 1) substr(head, RSTART + RLENGTH)
+    }
+    if (head ~ /&mut/) fault("lends something that this tool does not read")
+}
+
+# what a whole `ghost use` brings: a name of the forms comes from its home, and under its own name
+function bring(text,    from, names, count, at, name) {
+    from = text; sub(/^ghost use /, "", from); sub(/\.\{.*/, "", from); sub(/·specs\./, ".", from)
+    sub(/^[^{]*\{/, "", text); sub(/\}.*/, "", text)
+    count = split(text, names, ",")
+    for (at = 1; at <= count; at++) {
+        gsub(/^ +| +$/, "", names[at])
+        name = names[at]; sub(/.* as /, "", name)
+        if (name in homes && (name != names[at] || from != homes[name])) fault("its " name " is not that of " homes[name])
+    }
+}
+
 # a free function of a module is public where lib.rt says so; a method is public with its type
-function exported(    module, lib, line, found) {
+function exported(    line, found) {
     if (FILENAME ~ /\/lib\.rt$/ || type != "") return 1
-    module = FILENAME; sub(/.*\//, "", module); sub(/\.rt$/, "", module)
-    lib = FILENAME; sub(/[^\/]*$/, "lib.rt", lib)
-    while ((getline line < lib) > 0)
-        if (line == "pub use " module "::" name ";" || line == "pub mod " module ";") found = 1
-    close(lib)
+    while ((getline line < beside("lib")) > 0)
+        if (line ~ "^pub (use " module "::" name "|mod " module ");") found = 1
+    close(beside("lib"))
     return found
 }
 
+function beside(module,    path) {
+    path = FILENAME; sub(/[^\/]*$/, module ".rt", path)
+    return path
+}
+
+# whether the line exports a module of this folder, or one thing of it by its own name
+function plain_export(    path, line, there) {
+    if (FILENAME !~ /\/lib\.rt$/ || $0 !~ /^pub (mod [a-z0-9_]+|use [a-z0-9_]+::[A-Za-z0-9_]+);$/) return 0
+    path = $3; sub(/[:;].*/, "", path); path = beside(path)
+    there = (getline line < path) >= 0
+    close(path)
+    return there
+}
+
+FNR == 1 { module = FILENAME; sub(/.*\//, "", module); sub(/\.rt$/, "", module) }
+{ sub(/\/\/.*/, ""); gsub(/[ \t]+/, " "); sub(/ $/, "") }
+/\/\*|\*\// { fault("a comment by /* and */, which this tool does not read") }
+/^ ?pub (use|mod) / && !plain_export() { fault("an export that this tool does not read") }
+/^ ?(pub )?mod [a-z0-9_]+ \{/ { fault("a module in a file, which this tool does not read") }
+/^ ?pub struct [A-Za-z0-9_]+</ { fault("a struct that holds a reference, which this tool does not read") }
+/^ghost use / { brought = ""; bringing = 1 }
+bringing { brought = brought $0 }
+bringing && /;$/ { bring(brought); bringing = 0 }
 /^impl/ { type = $0; sub(/^impl(<[^>]*>)? */, "", type); sub(/[ <{].*/, "", type) }
 /^}/ { type = "" }
-/^ *pub ((const|extern "C") )*fn / {
+/^ ?pub ((const|extern "C") )*fn / {
     if (inside) finish()
-    head = ""; contract = ""; laws = ""; told = 0
+    head = contract = laws = pinned = ""; told = broken = 0
     name = $0; sub(/.*fn /, "", name); sub(/[(<].*/, "", name)
     inside = exported()
 }
-inside && /ensures/ {
-    text = $0; sub(/.*⌜ /, "", text); sub(/ ⌝.*/, "", text); text = plain(text)
-    bound = $0; sub(/.*λ /, "", bound); sub(/\. .*/, "", bound)
-    contract = contract (contract == "" ? "" : "; ") text
-    rule = law(text, bound)
-    if (rule == "") next
-    if (mentions(text, bound)) told = 1
-    if (index(laws, rule) == 0) laws = laws (laws == "" ? "" : ", ") rule
-    next
-}
+inside && /^ ensures ([A-Za-z0-9_-]+ )?\{ λ [A-Za-z_][A-Za-z0-9_]*\. ⌜ .* ⌝ \}$/ && gsub(/⌜/, "⌜") == 1 { clause(); next }
+inside && mentions($0, "ensures") { fault("its clause is not the whole of a line, as in `ensures { λ x. ⌜ .. ⌝ }`"); broken = 1; next }
+inside && mentions($0, "requires") { fault("has a requires"); next }
 inside { head = head $0 }
 # the body begins
-inside && /\{ *$/ { finish() }
+inside && /\{/ { finish() }
 END { if (inside) finish() }

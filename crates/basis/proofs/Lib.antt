@@ -3,5 +3,4 @@ pub mod Choice
 pub mod Both
 pub mod Every
 pub mod Bits
-pub mod Words
 pub mod Products

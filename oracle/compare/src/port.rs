@@ -16,12 +16,15 @@ pub struct Port {
 }
 
 pub fn root() -> PathBuf {
-    Path::new(env!("CARGO_MANIFEST_DIR")).join("../..")
+    Path::new(env!("CARGO_MANIFEST_DIR")).ancestors().nth(2).expect("oracle/compare stands in the project").into()
 }
 
 /// The program in ANSWERS, or target/bin/answers, run as `rt` runs it: under the kit's loader and, off x86-64, the kit's emulator.
 fn command() -> Result<Command, String> {
     let program = env::var_os("ANSWERS").map_or(root().join("target/bin/answers"), PathBuf::from);
+    if !program.is_file() {
+        return Err(format!("no {}: run `rt check answers` in the project's root, or set ANSWERS to the program", program.display()));
+    }
     let tools = kit()?.join("on").join(env::consts::ARCH).join("toolchain");
     let (emulator, loader) = (tools.join("bin/qemu-x86_64"), tools.join("lib/ld-linux-x86-64.so.2"));
     let mut command = Command::new(&loader);

@@ -1,0 +1,80 @@
+# Tries the tools of tools/ on small repositories that are made for it. Read by tests/run.
+made=$work/made
+
+unpack() { # SAMPLE: makes a repository of one crate from the sample's files, with the list of contracts that it has to hold
+    rm -rf "$made"
+    mkdir -p "$made/crates/sample/src" "$made/docs"
+    echo 'sample:' >"$made/crates.txt"
+    awk -v src="$made/crates/sample/src/" '/^file: / { out = src $2; next } out { print >out }' "$1"
+    tools/contracts list "$made" >"$made/docs/CONTRACTS.md"
+}
+
+as_it_says() { # SAMPLE: refused with the faults that the sample names and no other; passed where it names none
+    unpack "$1"
+    sed -n 's|^fault: |crates/sample/src/|p' "$1" >"$work/faults"
+    tools/contracts "$made" >"$work/said"
+    status=$?
+    [ -s "$work/faults" ] || return "$status"
+    [ "$status" = 1 ] && cmp -s "$work/faults" "$work/said"
+}
+
+listed_otherwise() {
+    unpack tests/contracts/right.sample
+    tools/contracts list "$made" | sed 's/nextOf x/lastOf x/' >"$made/docs/CONTRACTS.md"
+    ! tools/contracts "$made" >/dev/null
+}
+
+make_crates() ( # `top` uses `code`, `stated` and `proved`, says why it has `typed`, and has `said` only in comments; nobody uses its law
+    rm -rf "$made"
+    mkdir -p "$made/crates/top/src" "$made/crates/top/proofs/next" "$made/crates/proved/proofs"
+    cd "$made" || exit
+    printf '# a comment: none\ntop: code stated proved typed said # typed: a local has its type\nproved: # said\n' >crates.txt
+    printf '// said::x\nuse code::Core;\nghost use Rattle.stated.specs.State.{reg};\n' >crates/top/src/lib.rt
+    printf 'use Rattle.proved.proofs.Laws.{law}\n' >crates/top/proofs/next/Proof.antt
+    printf 'pub mod Unused\npub mod End\n' >crates/top/proofs/Lib.antt
+    printf -- '-- use Rattle.said.specs.State.{reg}\npub law : (x : N) → x ≡ x\n' >crates/top/proofs/Unused.antt
+    printf 'pub ends : EndsAsPromised\n' >crates/top/proofs/End.antt
+    printf 'pub law : (x : N) → x ≡ x\n' >crates/proved/proofs/Laws.antt
+)
+
+finds_what_is_unused() {
+    make_crates
+    printf '%s\n' 'crates.txt: top does not use said' 'crates/top/proofs/Unused.antt: nobody uses it' >"$work/faults"
+    tools/dependencies "$made" >"$work/said"
+    [ $? = 1 ] && cmp -s "$work/faults" "$work/said"
+}
+
+passes_what_is_used() {
+    make_crates
+    rm "$made/crates/top/proofs/Unused.antt"
+    printf 'top: code stated proved\nproved:\n' >"$made/crates.txt"
+    tools/dependencies "$made" >"$work/said" && [ ! -s "$work/said" ]
+}
+
+make_sources() { # TEXT SUM: a repository that lists two files by this sum, beside a folder that has one of them with this text
+    rm -rf "$made" "$work/shared"
+    mkdir -p "$made/docs" "$work/shared"
+    printf '%s' "$1" >"$work/shared/01.md"
+    printf '| `%s` | `%s` | x |\n' 01.md "$2" 02.md "$2" >"$made/docs/SOURCES.md"
+}
+
+holds_sums() {
+    sum=$(printf right | sha256sum)
+    make_sources right "${sum%% *}"
+    tools/sources "$made" >"$work/said" && grep -q 'not there: ../shared/02.md' "$work/said" || return 1
+    make_sources wrong "${sum%% *}"
+    ! tools/sources "$made" >"$work/said" && grep -q '../shared/01.md is not the file' "$work/said"
+}
+
+for sample in tests/contracts/*.sample; do
+    as_it_says "$sample"
+    note $? "$sample"
+done
+listed_otherwise
+note $? 'tools/contracts on a function that is listed otherwise'
+finds_what_is_unused
+note $? 'tools/dependencies on what nobody uses'
+passes_what_is_used
+note $? 'tools/dependencies on what is used'
+holds_sums
+note $? 'tools/sources'

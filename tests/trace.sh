@@ -1,0 +1,75 @@
+# Tries ./trace: what it prints for each case of tests/trace, how it ends, and what it says where it runs nothing. Read by tests/run.
+root=$(pwd)
+kit=${RATTLE_HOME:-$(dirname "$(dirname "$(readlink -f "$(command -v rt)")")")}
+example=$root/tests/trace/example.in
+
+prints() { # CASE COMMAND...: prints the case's output, says nothing beside it, and ends with 1 where the case is refused
+    expected=${1%.in}.out ends=0
+    shift
+    grep -q -e '^bad input$' -e ' refused-[0-9]* ' "$expected" && ends=1
+    "$@" >"$work/printed" 2>"$work/said"
+    [ $? = "$ends" ] && cmp -s "$work/printed" "$expected" && [ ! -s "$work/said" ]
+}
+
+runs_nothing() { # TEXT COMMAND...: ends with 2, prints nothing and says TEXT
+    text=$1
+    shift
+    "$@" >"$work/printed" 2>"$work/said"
+    [ $? = 2 ] && [ ! -s "$work/printed" ] && grep -q -e "$text" "$work/said"
+}
+
+stand_in() { # STATUS TEXT: a program rt that takes its whole input, keeps its words, says TEXT and ends with STATUS
+    mkdir -p "$work/bin"
+    printf '#!/bin/sh\ncat >/dev/null\necho "$*" >"%s"\necho "%s"\nexit %s\n' "$work/asked" "$2" "$1" >"$work/bin/rt"
+    chmod +x "$work/bin/rt"
+}
+
+with_stand_in() { # COMMAND...
+    env PATH="$work/bin:$PATH" RATTLE_HOME="$kit" "$@"
+}
+
+asks_each_time() { # rt is asked, and does not get the image
+    stand_in 0 'rt: ok, 10 crates proved'
+    prints "$example" with_stand_in ./trace <"$example" && [ "$(cat "$work/asked")" = 'check trace' ]
+}
+
+shows_a_proof() {
+    stand_in 0 'rt: tracing proved (26 s)'
+    with_stand_in ./trace "$example" 2>"$work/said" | cmp -s - "${example%.in}.out" && grep -q 'tracing proved' "$work/said"
+}
+
+without_the_kit() { # COMMAND...: with no rt on PATH
+    mkdir -p "$work/no_kit"
+    for tool in dirname readlink; do ln -sf "$(command -v "$tool")" "$work/no_kit/$tool"; done
+    env PATH="$work/no_kit" "$@"
+}
+
+rt check trace >/dev/null </dev/null # so that no case has to prove anything
+for case in tests/trace/*.in; do
+    prints "$case" ./trace <"$case"
+    note $? "./trace < $case"
+    prints "$case" ./trace "$case"
+    note $? "./trace $case"
+done
+asks_each_time
+note $? './trace asks rt each time'
+shows_a_proof
+note $? './trace shows what is proved'
+stand_in 1 'rt: tracing NOT PROVED'
+runs_nothing 'tracing NOT PROVED' with_stand_in ./trace "$example"
+note $? './trace where something is not proved'
+runs_nothing 'no rt on PATH' without_the_kit "$root/trace" "$example"
+note $? './trace without the kit'
+ln -s "$root/trace" "$work/link"
+(cd / && prints "$example" "$work/link" "$example")
+note $? './trace through a link, from another folder'
+./trace --help 2>&1 | grep -q '^./trace FILE '
+note $? './trace --help'
+runs_nothing 'cannot read no_such_file' ./trace no_such_file
+note $? './trace on no file'
+runs_nothing 'is a folder' ./trace tests
+note $? './trace on a folder'
+runs_nothing 'no such option' ./trace --hex "$example"
+note $? './trace with a wrong option'
+runs_nothing 'one image' ./trace "$example" "$example"
+note $? './trace on two files'
