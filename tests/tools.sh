@@ -51,6 +51,25 @@ passes_what_is_used() {
     tools/dependencies "$made" >"$work/said" && [ ! -s "$work/said" ]
 }
 
+make_claims() { # FIELD: a repository whose README names this field, and whose proof inhabits one statement that is claimed and one that is not
+    rm -rf "$made"
+    mkdir -p "$made/crates/promises/specs" "$made/crates/promises/proofs"
+    printf 'pub record Demand1 : Type 0 where\n  pub tick : Ticks\n' >"$made/crates/promises/specs/Demands.antt"
+    printf 'pub record Claims : Type 0 where\n  pub trace : Traces\n' >"$made/crates/promises/specs/Claims.antt"
+    printf 'pub ticks : Ticks\n\npub unclaimed : Unclaimed\n\npub demand1 : Demand1\n' >"$made/crates/promises/proofs/Demands.antt"
+    printf '| a row | `%s`, `target/bin` |\n' "$1" >"$made/README.md"
+}
+
+finds_what_is_unclaimed() {
+    make_claims Demand1.tock
+    printf '%s\n' 'crates/promises/proofs/Demands.antt: Unclaimed is no field of Demands.antt or Claims.antt' 'README.md: no field Demand1.tock' >"$work/faults"
+    tools/claims "$made" >"$work/said"
+    [ $? = 1 ] && cmp -s "$work/faults" "$work/said" || return 1
+    make_claims Demand1.tick
+    sed -i '/unclaimed/d' "$made/crates/promises/proofs/Demands.antt"
+    tools/claims "$made" >/dev/null
+}
+
 make_sources() { # TEXT SUM: a repository that lists two files by this sum, beside a folder that has one of them with this text
     rm -rf "$made" "$work/shared"
     mkdir -p "$made/docs" "$work/shared"
@@ -76,5 +95,7 @@ finds_what_is_unused
 note $? 'tools/dependencies on what nobody uses'
 passes_what_is_used
 note $? 'tools/dependencies on what is used'
+finds_what_is_unclaimed
+note $? 'tools/claims'
 holds_sums
 note $? 'tools/sources'

@@ -97,7 +97,9 @@ function clause(    text, bound, shape) {
     text = plain(text)
     contract = contract (contract == "" ? "" : "; ") text
     shape = form(text, bound)
-    if (shape in rules) pin(text, shape)
+    # nothing is handed back and nothing lent to be changed: the clause is a fact of the arguments
+    if (bound == "_" && head !~ /->|&mut|&'[a-z_]+ mut/ && text !~ /′/) laws = "nothing"
+    else if (shape in rules) pin(text, shape)
     else if (sub(/ after/, " D", shape) && shape in rules) fault("its definition mentions the result or a buffer after the call")
     else fault("no law makes one outcome of `" text "`")
 }

@@ -1,6 +1,6 @@
 -- One law, `equation`, at each field of a contract.
 -- Assumes nothing.
-use mathlib.Core.Path.{_≡_, sym, _∙_}
+use mathlib.Core.Path.{_≡_, refl, sym, _∙_}
 use Prim.Native.Nat.{ℕ}
 use Rattle.cores.specs.declared.Core.{Core}
 use Rattle.execute.specs.declared.Done.{Done}
@@ -48,4 +48,5 @@ one-outcome =
       tells-ticks =
           λ o x y e f. four (equation (e .number) (f .number)) (equation (e .snapshot) (f .snapshot)) (equation (e .bytes) (f .bytes)) (equation (e .ticks) (f .ticks));
       prints = λ t o x y e f. two (equation (e .count) (f .count)) (equation (e .bytes) (f .bytes));
+      nothing = λ x y e f. refl;
     }

@@ -1,4 +1,4 @@
--- 01: "Prove that two outcomes meeting one contract are the same." Every public function's contract is one of these ten; docs/CONTRACTS.md says which is whose.
+-- 01: "Prove that two outcomes meeting one contract are the same." Every public function's contract is one of these eleven; docs/CONTRACTS.md says which is whose.
 use mathlib.Core.Path.{_≡_}
 use mathlib.Core.List.{List}
 use Prim.Native.Nat.{ℕ}
@@ -34,3 +34,5 @@ pub record OneOutcome : Type 1 where
   pub tells : (t : Told) → One (λ (x : ℕ × List ℕ × List ℕ). Tells t (x .0) (x .1) (x .2))
   pub tells-ticks : (t : ToldTicks) → One (λ (x : ℕ × List ℕ × List ℕ × ℕ). TellsTicks t (x .0) (x .1) (x .2) (x .3))
   pub prints : (text before : List ℕ) → One (λ (x : ℕ × List ℕ). Prints text before (x .0) (x .1))
+  -- a function that hands nothing back and is lent nothing to change, whose contract is a fact of its arguments
+  pub nothing : One (λ (x : Unit {0}). Unit {0})

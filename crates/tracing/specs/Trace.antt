@@ -122,7 +122,7 @@ WholeTrace = (s d o : List ℕ) (n : ℕ) → Bytes s → 65535 * 36 ≤ length 
 abbrev pub CutTrace : Type 0
 CutTrace = (s : List ℕ) → traceOf (take 49158 s) ≡ traceOf s
 
--- ---- the code's buffer, and where the next byte goes
+-- ---- the code's buffer, and where the next byte goes: for the contracts of private functions, so that nobody has to believe it
 pub record Page : Type 0 where
   pub bytes : List ℕ
   pub at : ℕ
