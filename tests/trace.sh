@@ -3,19 +3,23 @@ root=$(pwd)
 kit=${RATTLE_HOME:-$(dirname "$(dirname "$(readlink -f "$(command -v rt)")")")}
 example=$root/tests/trace/example.in
 
-prints() { # CASE COMMAND...: prints the case's output, says nothing beside it, and ends with 1 where the case is refused
+prints() { # CASE COMMAND...: prints the case's output, says nothing beside it, and ends with 1 where the case is refused; where it runs nothing, it says so
     expected=${1%.in}.out ends=0
     shift
+    if [ ! -s "$expected" ]; then
+        runs_nothing 'the budget is 0' "$@"
+        return
+    fi
     grep -q -e '^bad input$' -e ' refused-[0-9]* ' "$expected" && ends=1
     "$@" >"$work/printed" 2>"$work/said"
     [ $? = "$ends" ] && cmp -s "$work/printed" "$expected" && [ ! -s "$work/said" ]
 }
 
-runs_nothing() { # TEXT COMMAND...: ends with 2, prints nothing and says TEXT
+runs_nothing() { # TEXT COMMAND...: ends with 1, prints nothing and says TEXT
     text=$1
     shift
     "$@" >"$work/printed" 2>"$work/said"
-    [ $? = 2 ] && [ ! -s "$work/printed" ] && grep -q -e "$text" "$work/said"
+    [ $? = 1 ] && [ ! -s "$work/printed" ] && grep -q -e "$text" "$work/said"
 }
 
 stand_in() { # STATUS TEXT: a program rt that takes its whole input, keeps its words, says TEXT and ends with STATUS
