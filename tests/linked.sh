@@ -1,5 +1,5 @@
 # Where the tools are there: the programs of host/c, the tests and the example of host/rust, and firmware/check, over the archive that `rt staticlib host` writes.
-# The archive is for x86-64. On an Arm machine Debian's cross compiler, its Rust with the library for x86-64 and an emulator stand in (tests/install gets them).
+# The archive is for x86-64. On an Arm machine Debian's cross compiler, its Rust with the library for x86-64 and an emulator stand in (as root, tests/install gets them).
 # Read by tests/run.
 archive=''
 if [ "$(uname -m)" = x86_64 ]; then

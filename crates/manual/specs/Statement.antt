@@ -96,4 +96,4 @@ EqualsUnlessListed =
     (k : Core) (p m : List ℕ) (o : Offer) → Sound k → Bytes p → Bytes m
     → let t = tickOf k p m o in
     let i = opcodeAt p (k .pc) in
-    ended t ≡ false → executes t && listed i ≡ false → tickBy theManual k p m o ≡ told t
+    ended t ≡ false → (executes t && listed i) ≡ false → tickBy theManual k p m o ≡ told t

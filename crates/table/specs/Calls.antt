@@ -1,5 +1,5 @@
 -- 01's table at the functions around the tick: 6 of a register, 5 and 7 to 9 of a snapshot, 10 of the C interface, 24 of a run. 0 is no refusal.
--- k is a core, s a snapshot or a buffer for one, p a program, m the bytes of data, o an offer; offer, budget and ticks are the numbers that a call takes.
+-- k is a core, r a register number, v a value, s a snapshot or a buffer for one, p a program, m the bytes of data, o an offer; offer, budget and ticks are the numbers that a call takes.
 use mathlib.Core.Path.{_≡_}
 use mathlib.Core.Logic.{_↔_}
 use mathlib.Core.Bool.{Bool, true, false, not, _&&_}
@@ -94,5 +94,5 @@ TickCallsWriteTheNextCore =
 abbrev pub RunCallsWriteTheLastCore : Type 0
 RunCallsWriteTheLastCore =
     (s p m : List ℕ) (offer budget ticks : ℕ) → (not (ltb 65536 offer) && readable s) ≡ true
-    → let r = runOf budget (coreOf s) p m (offerOf offer) in
-    avrRunOf s p m offer budget ticks ≡ toldTicks (r .answer) (bytesOf (r .core)) (r .bytes) (r .count)
+    → let ran = runOf budget (coreOf s) p m (offerOf offer) in
+    avrRunOf s p m offer budget ticks ≡ toldTicks (ran .answer) (bytesOf (ran .core)) (ran .bytes) (ran .count)
