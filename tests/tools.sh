@@ -53,9 +53,10 @@ passes_what_is_used() {
 
 make_claims() { # FIELD: a repository whose README names this field, and whose proof inhabits one statement that is claimed and one that is not
     rm -rf "$made"
-    mkdir -p "$made/crates/promises/specs" "$made/crates/promises/proofs"
+    mkdir -p "$made/crates/promises/specs" "$made/crates/promises/proofs" "$made/crates/contracts/specs"
     printf 'pub record Demand1 : Type 0 where\n  pub tick : Ticks\n' >"$made/crates/promises/specs/Demands.antt"
     printf 'pub record Claims : Type 0 where\n  pub trace : Traces\n' >"$made/crates/promises/specs/Claims.antt"
+    printf 'pub record Contracts : Type 2 where\n  pub run : run.statement\n' >"$made/crates/contracts/specs/Contracts.antt"
     printf 'pub ticks : Ticks\n\npub unclaimed : Unclaimed\n\npub demand1 : Demand1\n' >"$made/crates/promises/proofs/Demands.antt"
     printf '| a row | `%s`, `target/bin` |\n' "$1" >"$made/README.md"
 }

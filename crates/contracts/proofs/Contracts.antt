@@ -1,0 +1,30 @@
+-- The contracts are met, each by the proof of its function.
+-- Assumes nothing.
+use Rattle.instruction.proofs.Instruction.decode.Met as decode
+use Rattle.tick.proofs.tick.Met as tick
+use Rattle.tick.proofs.tick_in_place.Met as tick-in-place
+use Rattle.run.proofs.run.Met as run
+use Rattle.snapshot.proofs.write.Met as write
+use Rattle.snapshot.proofs.read.Met as read
+use Rattle.host.proofs.avr_tick.Met as avr-tick
+use Rattle.host.proofs.avr_run.Met as avr-run
+use Rattle.tracing.proofs.trace.Met as trace
+use Rattle.by_types.proofs.slice.Met as slice
+use Rattle.by_types.proofs.core.Met as core
+use Rattle.contracts.specs.Contracts.{Contracts}
+
+pub contracts : Contracts
+contracts =
+    record {
+      decode = decode.met;
+      tick = tick.met;
+      tick-in-place = tick-in-place.met;
+      run = run.met;
+      write = write.met;
+      read = read.met;
+      avr-tick = avr-tick.met;
+      avr-run = avr-run.met;
+      trace = trace.met;
+      slice = slice.met;
+      core = core.met;
+    }

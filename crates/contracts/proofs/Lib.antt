@@ -1,0 +1,2 @@
+-- `Contracts`: each is met.
+pub mod Contracts

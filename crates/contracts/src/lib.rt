@@ -1,0 +1,1 @@
+// Statements and proofs alone: no function.
