@@ -13,7 +13,7 @@ use Rattle.by_types.proofs.slice.Statement as slice
 use Rattle.by_types.proofs.core.Statement as core
 
 pub record Contracts : Type 2 where
-  -- crates/instruction/src/lib.rt
+  -- crates/instruction/src/decode.rt
   pub decode : {M : Type 1} → decode.statement M
   -- crates/tick/src/lib.rt
   pub tick : {M : Type 1} → tick.statement M
