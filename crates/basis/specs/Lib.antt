@@ -1,3 +1,5 @@
 -- Definitions that every crate's definitions are written in.
 pub mod Pick
 pub mod Bit
+pub mod Bytes
+pub mod Text

@@ -1,7 +1,8 @@
 // What the theorems assume of cores and slices holds of every one by its type: each function here takes any, hands nothing back, and ensures it.
 use cores::Core;
 ghost use Prim.Native.Nat.{_≤_};
-ghost use Rattle.cores.specs.State.{Sound, Bytes};
+ghost use Rattle.basis.specs.Bytes.{Bytes};
+ghost use Rattle.cores.specs.State.{Sound};
 
 // A lent slice, the empty one too.
 pub fn slice(bytes: &[u8])

@@ -4,8 +4,8 @@ use mathlib.Core.List.{List}
 use Prim.Native.Nat.{ℕ, _+_, _*_, _<_}
 use native.Mathlib.Omega.{arith}
 use lib.ListN.{getD}
+use Rattle.basis.specs.Bytes.{Bytes}
 use Rattle.memory.specs.Memory.{wordOf, programWordOf}
-use Rattle.cores.specs.State.{Bytes}
 
 pub word-lt : (l : List ℕ) (at : ℕ) → ((i : ℕ) → getD l i 0 < 256) → wordOf l at < 65536
 word-lt l at h = omega (arith, h at, h (at + 1))

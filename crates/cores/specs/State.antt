@@ -98,7 +98,3 @@ pub record Sound (k : Core) : Type 0 where
   pub pc-lt : k .pc < 65536
   pub sp-lt : k .sp < 65536
   pub busy-le : k .busy ≤ 4
-
--- what every lent slice of bytes is
-pub record Bytes (m : List ℕ) : Type 0 where
-  pub byte-lt : (i : ℕ) → getD m i 0 < 256

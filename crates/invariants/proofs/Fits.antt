@@ -6,8 +6,9 @@ use mathlib.Core.List.{List}
 use Prim.Native.Nat.{ℕ, _+_, _/_, _%_, _≤_, _<_}
 use native.Mathlib.Omega.{arith}
 use lib.ListN.{length, set, length-set}
+use Rattle.basis.specs.Bytes.{Bytes}
 use Rattle.cores.specs.declared.Core.{Core}
-use Rattle.cores.specs.State.{reg, word, withReg, withWord, withSreg, withPc, withSp, withBusy, withInhibit, withService, Sound, Bytes}
+use Rattle.cores.specs.State.{reg, word, withReg, withWord, withSreg, withPc, withSp, withBusy, withInhibit, withService, Sound}
 use Rattle.cores.proofs.Bounds.{word-lt}
 use Rattle.invariants.proofs.Bounds.{set-lt}
 

@@ -9,10 +9,11 @@ use lib.Dec.{eqb}
 use lib.ListN.{getD, set, length, length-set}
 use Rattle.basis.specs.Bit.{one, up, down}
 use Rattle.basis.proofs.Choice.{either}
+use Rattle.basis.specs.Bytes.{Bytes}
 use Rattle.alu.specs.Alu.{signedOf, halvedOf, doubledOf}
 use Rattle.alu.specs.declared.Sum.{Sum}
 use Rattle.cores.specs.declared.Core.{Core}
-use Rattle.cores.specs.State.{Out, reg, word, flag, withReg, withWord, withSreg, withPc, withSp, withBusy, withService, Bytes}
+use Rattle.cores.specs.State.{Out, reg, word, flag, withReg, withWord, withSreg, withPc, withSp, withBusy, withService}
 use Rattle.cores.specs.Arithmetic.{sumFlags, summed, resulted, multiplied, fractional}
 use Rattle.cores.specs.Bits.{shifted}
 use Rattle.cores.specs.Flow.{brbxOf, wordPushed, overSecond, called, skipped, jumped, retOf, retiOf}

@@ -6,11 +6,12 @@ use mathlib.Core.List.{List}
 use Prim.Native.Nat.{ℕ}
 use native.Mathlib.Omega.{arith}
 use Rattle.basis.proofs.Bits.{put-lt}
+use Rattle.basis.specs.Bytes.{Bytes}
 use Rattle.alu.specs.Alu.{negative}
 use Rattle.instruction.specs.declared.Instruction.{Instruction}
 use Rattle.instruction.specs.declared.Instruction.the-variants.{ADC, ADD, ADIW, AND, ANDI, ASR, BCLR, BLD, BRBC, BRBS, BREAK, BSET, BST, CALL, CBI, COM, CP, CPC, CPI, CPSE, DEC, EOR, FMUL, FMULS, FMULSU, ICALL, IJMP, IN, INC, JMP, LDX, LDXinc, LDXdec, LDYinc, LDYdec, LDZinc, LDZdec, LDDY, LDDZ, LDI, LDS, LPM, LPMZ, LPMZinc, LSL, LSR, MOV, MOVW, MUL, MULS, MULSU, NEG, NOP, OR, ORI, OUT, POP, PUSH, RCALL, RET, RETI, RJMP, ROR, SBC, SBCI, SBI, SBIC, SBIS, SBIW, SBRC, SBRS, SLEEP, STX, STXdec, STXinc, STYdec, STYinc, STZdec, STZinc, STDY, STDZ, STS, SUB, SUBI, SWAP, WDR, UNDEF}
 use Rattle.cores.specs.declared.Core.{Core}
-use Rattle.cores.specs.State.{reg, flag, withReg, Bytes}
+use Rattle.cores.specs.State.{reg, flag, withReg}
 use Rattle.execute.specs.Execute.{executed}
 use Rattle.invariants.specs.Instructions.{ByteOperand, InstructionsStayInRange}
 use Rattle.invariants.proofs.Bounds.{cznvs-lt, cznvsh-lt, plus-lt, minus-lt, and-byte, or-byte, xor-byte}

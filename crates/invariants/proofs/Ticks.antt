@@ -6,13 +6,14 @@ use mathlib.Core.Bool.{true, false}
 use mathlib.Core.List.{List}
 use Prim.Native.Nat.{ℕ, _+_, _-_, _≤_, _<_}
 use native.Mathlib.Omega.{arith}
+use Rattle.basis.specs.Bytes.{Bytes}
 use Rattle.instruction.specs.Decode.{decodeOf}
 use Rattle.instruction.specs.Fields.{InFields}
 use Rattle.instruction.specs.declared.Instruction.{Instruction}
 use Rattle.instruction.proofs.Laws.{fields-in-range}
 use Rattle.memory.specs.Memory.{programWordOf}
 use Rattle.cores.specs.declared.Core.{Core}
-use Rattle.cores.specs.State.{withPc, withBusy, withInhibit, withService, Sound, Bytes}
+use Rattle.cores.specs.State.{withPc, withBusy, withInhibit, withService, Sound}
 use Rattle.cores.specs.Flow.{wordPushed, opAt}
 use Rattle.cores.proofs.Bounds.{program-word-lt}
 use Rattle.execute.specs.declared.Done.{Done}

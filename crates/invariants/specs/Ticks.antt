@@ -3,8 +3,9 @@ use mathlib.Core.Path.{_≡_}
 use mathlib.Core.Logic.{_⊎_}
 use mathlib.Core.List.{List}
 use Prim.Native.Nat.{ℕ, _≤_, _<_}
+use Rattle.basis.specs.Bytes.{Bytes}
 use Rattle.cores.specs.declared.Core.{Core}
-use Rattle.cores.specs.State.{Sound, Bytes}
+use Rattle.cores.specs.State.{Sound}
 use Rattle.tick.specs.declared.Offer.{Offer}
 use Rattle.tick.specs.declared.Offer.the-variants.{Vector, Nothing}
 use Rattle.tick.specs.declared.Answer.the-variants.{Refused}

@@ -9,12 +9,13 @@ use lib.Dec.{ltb}
 use lib.ListN.{getD, length}
 use Rattle.basis.specs.Pick.{pick}
 use Rattle.basis.specs.Bit.{bit}
+use Rattle.basis.specs.Bytes.{Bytes}
 use Rattle.instruction.specs.Decode.{decodeOf}
 use Rattle.instruction.specs.Fields.{InFields}
 use Rattle.instruction.specs.declared.Instruction.{Instruction}
 use Rattle.instruction.specs.declared.Instruction.the-variants.{ADC, ADD, ADIW, AND, ANDI, ASR, BCLR, BLD, BRBC, BRBS, BREAK, BSET, BST, CALL, CBI, COM, CP, CPC, CPI, CPSE, DEC, EOR, FMUL, FMULS, FMULSU, ICALL, IJMP, IN, INC, JMP, LDX, LDXinc, LDXdec, LDYinc, LDYdec, LDZinc, LDZdec, LDDY, LDDZ, LDI, LDS, LPM, LPMZ, LPMZinc, LSL, LSR, MOV, MOVW, MUL, MULS, MULSU, NEG, NOP, OR, ORI, OUT, POP, PUSH, RCALL, RET, RETI, RJMP, ROR, SBC, SBCI, SBI, SBIC, SBIS, SBIW, SBRC, SBRS, SLEEP, STX, STXdec, STXinc, STYdec, STYinc, STZdec, STZinc, STDY, STDZ, STS, SUB, SUBI, SWAP, WDR, UNDEF}
 use Rattle.cores.specs.declared.Core.{Core}
-use Rattle.cores.specs.State.{Bytes, reg, withPc}
+use Rattle.cores.specs.State.{reg, withPc}
 use Rattle.cores.specs.Flow.{twoAt, dataBitIs}
 use Rattle.cores.specs.Transfer.{dataOf}
 use Rattle.execute.specs.Needs.{Needs, refusal, needs}

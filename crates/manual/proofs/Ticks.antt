@@ -9,13 +9,14 @@ use lib.Dec.{eqb, ltb}
 use borrow.Author.Tests.{eqb-true, eqb-false, ltb-false, le-ltb}
 use Rattle.basis.specs.Pick.{pick}
 use Rattle.basis.proofs.Choice.{clash, either}
+use Rattle.basis.specs.Bytes.{Bytes}
 use Rattle.instruction.specs.Decode.{decodeOf}
 use Rattle.instruction.proofs.Laws.{fields-in-range}
 use Rattle.instruction.specs.Code.{twoWords}
 use Rattle.instruction.specs.declared.Instruction.{Instruction}
 use Rattle.memory.specs.Memory.{programWordOf}
 use Rattle.cores.specs.declared.Core.{Core}
-use Rattle.cores.specs.State.{Sound, Bytes, withPc, withInhibit}
+use Rattle.cores.specs.State.{Sound, withPc, withInhibit}
 use Rattle.cores.specs.Flow.{twoAt, opAt}
 use Rattle.cores.proofs.Bounds.{program-word-lt}
 use Rattle.execute.specs.Needs.{Needs, refusal, needs, fetched, withFetch, pushNeeds}

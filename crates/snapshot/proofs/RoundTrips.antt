@@ -10,8 +10,9 @@ use lib.ListN.{getD, drop, length, length-append, take-append-drop, drop-of-leng
 use lib.Seq.{take-at, drop-cons, getD-append-add}
 use borrow.Author.Tests.{ltb-false, le-ltb, eq-eqb, eqb-true}
 use Rattle.basis.specs.Bit.{one}
+use Rattle.basis.specs.Bytes.{Bytes}
 use Rattle.cores.specs.declared.Core.{Core}
-use Rattle.cores.specs.State.{Sound, Bytes}
+use Rattle.cores.specs.State.{Sound}
 use Rattle.snapshot.specs.Snapshot.{bytesOf, coreOf, wrote, writeOf, readOf, ReadingUndoesWriting, WritingUndoesReading}
 
 -- ---- the last byte

@@ -6,8 +6,9 @@ use lib.Dec.{eqb, ltb}
 use lib.ListN.{getD, take, length}
 use Rattle.basis.specs.Pick.{pick}
 use Rattle.basis.specs.Bit.{one}
+use Rattle.basis.specs.Bytes.{Bytes}
 use Rattle.cores.specs.declared.Core.{Core}
-use Rattle.cores.specs.State.{freshOf, Sound, Bytes}
+use Rattle.cores.specs.State.{freshOf, Sound}
 use Rattle.snapshot.specs.declared.SnapshotRead.{SnapshotRead}
 
 -- a core's 38 bytes

@@ -12,9 +12,10 @@ use Rattle.basis.specs.Pick.{pick}
 use Rattle.basis.specs.Bit.{one, bit, put}
 use Rattle.basis.proofs.Bits.{one-le, or-put, and-put}
 use Rattle.basis.proofs.Every.{agreed}
+use Rattle.basis.specs.Bytes.{Bytes}
 use Rattle.bits.proofs.Tops.{bit7}
 use Rattle.memory.specs.Memory.{bitSetOf}
-use Rattle.cores.specs.State.{Sound, Bytes, reg, withReg, flag}
+use Rattle.cores.specs.State.{Sound, reg, withReg, flag}
 use Rattle.cores.specs.Bits.{asrOf, flagMadeOf, bldOf, bstOf, lsrOf, rorOf, swapOf}
 use Rattle.source.specs.Monad.{Self, ok, panic, withCore, withDs, if_then_else_}
 use Rattle.source.specs.Integers.{u8-as-i8, signed-as-u8, halved}

@@ -5,12 +5,13 @@ use mathlib.Core.Bool.{Bool, true, false, not, and-true}
 use Prim.Native.Nat.{ℕ, _<_}
 use native.Mathlib.Omega.{arith}
 use Rattle.basis.specs.Pick.{pick}
+use Rattle.basis.specs.Bytes.{Bytes}
 use Rattle.instruction.specs.declared.Instruction.{Instruction}
 use Rattle.instruction.specs.declared.Instruction.the-variants.{ADC, ADD, ADIW, AND, ANDI, ASR, BCLR, BLD, BRBC, BRBS, BREAK, BSET, BST, CALL, CBI, COM, CP, CPC, CPI, CPSE, DEC, EOR, FMUL, FMULS, FMULSU, ICALL, IJMP, IN, INC, JMP, LDX, LDXinc, LDXdec, LDYinc, LDYdec, LDZinc, LDZdec, LDDY, LDDZ, LDI, LDS, LPM, LPMZ, LPMZinc, LSL, LSR, MOV, MOVW, MUL, MULS, MULSU, NEG, NOP, OR, ORI, OUT, POP, PUSH, RCALL, RET, RETI, RJMP, ROR, SBC, SBCI, SBI, SBIC, SBIS, SBIW, SBRC, SBRS, SLEEP, STX, STXdec, STXinc, STYdec, STYinc, STZdec, STZinc, STDY, STDZ, STS, SUB, SUBI, SWAP, WDR, UNDEF}
 use Rattle.instruction.specs.Decode.{decodeOf}
 use Rattle.instruction.specs.Fields.{InFields, Pair}
 use Rattle.memory.specs.Memory.{hasOf}
-use Rattle.cores.specs.State.{Sound, Bytes, out, word}
+use Rattle.cores.specs.State.{Sound, out, word}
 use Rattle.execute.specs.Needs.{needs}
 use Rattle.execute.specs.Execute.{Executed, executed}
 use Rattle.tick.specs.Tick.{answerOf, stops}

@@ -10,9 +10,10 @@ use lib.ListN.{getD, set, length, length-set}
 use borrow.Author.Tests.{lt-ltb, le-ltb, ltb-true, ltb-false}
 use Rattle.basis.specs.Pick.{pick}
 use Rattle.basis.specs.Bit.{up}
+use Rattle.basis.specs.Bytes.{Bytes}
 use Rattle.alu.specs.Alu.{signedOf}
 use Rattle.cores.specs.declared.Core.{Core}
-use Rattle.cores.specs.State.{Sound, Bytes, out, word, withPc, withSp, withBusy, withService, withInhibit, flag}
+use Rattle.cores.specs.State.{Sound, out, word, withPc, withSp, withBusy, withService, withInhibit, flag}
 use Rattle.cores.specs.Flow.{brbxOf, callOf, icallOf, ijmpOf, jmpOf, rcallOf, retOf, retiOf, rjmpOf}
 use Rattle.source.specs.Monad.{Self, Outcome, panic}
 use Rattle.source.specs.Integers.{u8-as-i8, signed-as-u16}

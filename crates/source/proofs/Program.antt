@@ -11,6 +11,7 @@ use lib.ListN.{getD}
 use borrow.Author.Tests.{lt-ltb, ltb-true}
 use Rattle.basis.specs.Pick.{pick}
 use Rattle.basis.proofs.Choice.{same}
+use Rattle.basis.specs.Bytes.{Bytes}
 use Rattle.instruction.specs.declared.Instruction.{Instruction}
 use Rattle.instruction.specs.Decode.{decodeOf}
 use Rattle.instruction.specs.Code.{twoWords}
@@ -19,7 +20,6 @@ use Rattle.instruction.proofs.Laws.{fields-in-range}
 use Rattle.instruction.proofs.Tests.{each}
 use Rattle.memory.specs.Memory.{wordOf, programWordOf, hasWordOf}
 use Rattle.cores.specs.Flow.{opAt}
-use Rattle.cores.specs.State.{Bytes}
 use Rattle.cores.proofs.Bounds.{program-word-lt}
 use Rattle.source_decode.specs.RustDecode.{rustDecode}
 use Rattle.source_decode.proofs.Decodes.{decodes-as-the-rust}

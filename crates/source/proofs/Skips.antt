@@ -11,9 +11,10 @@ use lib.ListN.{getD, length}
 use borrow.Author.Tests.{lt-ltb, le-ltb, ltb-true, ltb-false, eqb-true}
 use Rattle.basis.specs.Pick.{pick}
 use Rattle.basis.specs.Bit.{one, bit, up}
+use Rattle.basis.specs.Bytes.{Bytes}
 use Rattle.instruction.specs.Decode.{decodeOf}
 use Rattle.memory.specs.Memory.{hasWordOf}
-use Rattle.cores.specs.State.{Sound, Bytes, reg, withPc, withBusy}
+use Rattle.cores.specs.State.{Sound, reg, withPc, withBusy}
 use Rattle.cores.specs.Flow.{twoAt, skipped, dataBitIs}
 use Rattle.execute.specs.Needs.{skipNeeds}
 use Rattle.source_decode.specs.RustDecode.{rustDecode}

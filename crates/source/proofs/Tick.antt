@@ -9,12 +9,13 @@ use lib.Dec.{eqb, ltb}
 use lib.ListN.{set, length, length-set}
 use borrow.Author.Tests.{lt-ltb, le-ltb, eqb-true, eqb-false}
 use Rattle.basis.specs.Pick.{pick}
+use Rattle.basis.specs.Bytes.{Bytes}
 use Rattle.instruction.specs.Decode.{decodeOf}
 use Rattle.instruction.specs.Code.{twoWords}
 use Rattle.memory.specs.Memory.{hasWordOf}
 use Rattle.cores.specs.Flow.{opAt}
 use Rattle.cores.specs.declared.Core.{Core}
-use Rattle.cores.specs.State.{Sound, Bytes, out, withPc, withSp, withBusy, withInhibit, withService, flag}
+use Rattle.cores.specs.State.{Sound, out, withPc, withSp, withBusy, withInhibit, withService, flag}
 use Rattle.tick.specs.declared.Offer.{Offer}
 use Rattle.tick.specs.declared.Offer.the-variants.{Vector, Nothing}
 use Rattle.tick.specs.declared.Answer.the-variants.{Entered, End}

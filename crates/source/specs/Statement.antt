@@ -11,8 +11,9 @@ use mathlib.Core.Path.{_≡_}
 use mathlib.Core.Bool.{Bool, true, false, not}
 use mathlib.Core.List.{List}
 use Prim.Native.Nat.{ℕ, _≤_}
+use Rattle.basis.specs.Bytes.{Bytes}
 use Rattle.cores.specs.declared.Core.{Core}
-use Rattle.cores.specs.State.{Sound, Bytes}
+use Rattle.cores.specs.State.{Sound}
 use Rattle.tick.specs.declared.Offer.{Offer}
 use Rattle.tick.specs.declared.Answer.{Answer}
 use Rattle.tick.specs.declared.Ticked.{Ticked}

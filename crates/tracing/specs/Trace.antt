@@ -3,13 +3,13 @@ use mathlib.Core.Path.{_≡_}
 use mathlib.Core.Bool.{_||_}
 use mathlib.Core.List.{List, [], _∷_, _++_}
 use Prim.Native.Nat.{ℕ, zero, suc, _+_, _*_, _/_, _%_, _≤_, min}
-use Prim.Native.Char.{code}
-use Prim.Native.String.{String, [] as end, _∷_ as then}
 use lib.Dec.{ltb, leb}
 use lib.ListN.{getD, set, take, drop, length, replicate}
 use Rattle.basis.specs.Pick.{pick}
+use Rattle.basis.specs.Bytes.{Bytes}
+use Rattle.basis.specs.Text.{text, line, hexDigit}
 use Rattle.cores.specs.declared.Core.{Core}
-use Rattle.cores.specs.State.{freshOf, Bytes}
+use Rattle.cores.specs.State.{freshOf}
 use Rattle.tick.specs.Tick.{refuses, stops, tickOf}
 use Rattle.tick.specs.declared.Offer.the-variants.{Nothing}
 use Rattle.tick.specs.declared.Answer.{Answer}
@@ -27,19 +27,7 @@ jobOf s =
     let size = wordIn s 0 in
     pick (ltb 49152 size) Bad (pick (ltb (length s) (size + 6)) Bad (Trace size (wordIn s 2) (wordIn s 4)))
 
--- ---- texts, as the codes of their characters
-abbrev pub text : String → List ℕ
-text end = []
-text (then c t) = code c ∷ text t
-
--- "Every line ends in LF."
-abbrev pub line : String → List ℕ
-line t = text t ++ (10 ∷ [])
-
--- "PC and SP four hex digits, SREG two": capitals
-abbrev pub hexDigit : ℕ → ℕ
-hexDigit x = let d = x % 16 in pick (ltb d 10) (48 + d) (55 + d)
-
+-- ---- "PC and SP four hex digits, SREG two": capitals
 abbrev pub hex2 : ℕ → List ℕ
 hex2 x = hexDigit (x / 16) ∷ hexDigit x ∷ []
 

@@ -6,21 +6,13 @@ use tick::Answer;
 ghost use mathlib.Core.Path.{_≡_};
 ghost use mathlib.Core.List.{[], _∷_};
 ghost use Rattle.basis.specs.Pick.{pick};
-ghost use Rattle.tracing.specs.Trace.{page, Puts, hexDigit, hex2, hex4, decimal, wordOf, coreOf, lineOf};
-
-// A digit 0 to 9, A to F, of the low four bits.
-fn hex_digit(x: u8) -> u8
-    ensures { λ r. ⌜ r ≡ hexDigit x ⌝ }
-{
-    let d = x % 16;
-    if d < 10 { 48 + d } else { 55 + d }
-}
+ghost use Rattle.tracing.specs.Trace.{page, Puts, hex2, hex4, decimal, wordOf, coreOf, lineOf};
 
 fn put_hex2(out: &mut [u8], at: usize, x: u8) -> usize
     ensures { λ n. ⌜ Puts (page (now (out .entry)) at) (hex2 x) (page (now (out .exit)) n) ⌝ }
 {
-    let at = put_byte(out, at, hex_digit(x / 16));
-    put_byte(out, at, hex_digit(x))
+    let at = put_byte(out, at, basis::hex_digit(x / 16));
+    put_byte(out, at, basis::hex_digit(x))
 }
 
 fn put_hex4(out: &mut [u8], at: usize, x: u16) -> usize

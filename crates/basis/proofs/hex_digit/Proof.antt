@@ -2,8 +2,8 @@
 -- Assumes nothing.
 use borrow.Author.Needs.{needs}
 use borrow.Author.Tests.{lt-ltb, le-ltb}
-use Rattle.tracing.proofs.line.hex_digit.Statement.{statement}
-use Rattle.tracing.proofs.line.hex_digit.Tie as tie
+use Rattle.basis.proofs.hex_digit.Statement.{statement}
+use Rattle.basis.proofs.hex_digit.Tie as tie
 
 pub hex-digit-spec : {M : Type 1} → statement M
 hex-digit-spec =
