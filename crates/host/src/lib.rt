@@ -1,7 +1,12 @@
-// The C interface: the tick and the run over a snapshot. Numbers are 01's; 65,536 is no offer.
+// The C interface: the tick and the run over a snapshot, and HEX files. Numbers are 01's and 02's; 65,536 is no offer.
 use tick::Offer;
 ghost use mathlib.Core.Path.{_≡_};
 ghost use Rattle.host.specs.Host.{offerOf, avrTickOf, avrRunOf, Tells, TellsTicks};
+
+mod hex_files;
+
+pub use hex_files::avr_hex_read;
+pub use hex_files::avr_hex_write;
 
 fn offer_of(offer: u32) -> Offer
     ensures { λ o. ⌜ o ≡ offerOf offer ⌝ }

@@ -1,0 +1,41 @@
+-- How the code goes through a text: numbers of characters, and places. That these are the lines of `linesOf` is proved (proofs/Found.antt).
+use mathlib.Core.Path.{_≡_}
+use mathlib.Core.Bool.{true, _&&_}
+use mathlib.Core.List.{List, [], _∷_}
+use Prim.Native.Nat.{ℕ, suc, _+_, _*_, _/_, _%_, _<_, _≤_}
+use lib.Dec.{eqb, ltb}
+use lib.ListN.{length, drop, getD}
+use Rattle.basis.specs.Pick.{pick}
+use Rattle.hex_line.specs.declared.Line.{Line}
+use Rattle.hex_line.specs.Line.{startsLf, allDigits, countOf, endOf}
+
+-- the line's end that stands at the start of a text: an LF, or a CR and an LF; 0 where there is none
+abbrev pub endLength : List ℕ → ℕ
+endLength [] = 0
+endLength (c ∷ t) = pick (eqb c 10) 1 (pick (eqb c 13 && startsLf t) 2 0)
+
+-- the characters before the first line's end
+unfoldable pub lineLength : List ℕ → ℕ
+lineLength [] = 0
+lineLength (c ∷ t) = pick (ltb 0 (endLength (c ∷ t))) 0 (suc (lineLength t))
+
+-- the line that starts at a place
+abbrev pub stopOf : List ℕ → ℕ → ℕ
+stopOf t at = at + lineLength (drop at t)
+
+abbrev pub lineAt : List ℕ → ℕ → Line
+lineAt t at = record { stop = stopOf t at; next = stopOf t at + endLength (drop (stopOf t at) t) }
+
+-- what a digit is worth by its code: the low four bits, and 9 more for a letter
+unfoldable pub digitOf : ℕ → ℕ
+digitOf c = c % 16 + c / 64 * 9
+
+-- data byte j by the two digits that say it, in a line that has no fault; 0 where the line is shorter
+abbrev pub dataByte : List ℕ → ℕ → ℕ
+dataByte l j = pick (ltb (j * 2 + 9 + 1) (length l)) ((digitOf (getD l (j * 2 + 9) 0) * 16 + digitOf (getD l (j * 2 + 9 + 1) 0)) % 256) 0
+
+-- a line whose bytes can be filled into a buffer of `size` bytes
+pub record Fits (size : ℕ) (l : List ℕ) : Type 0 where
+  pub digits : allDigits (drop 1 l) ≡ true
+  pub long : length l ≡ countOf l * 2 + 11
+  pub inside : 0 < countOf l → endOf l ≤ size
