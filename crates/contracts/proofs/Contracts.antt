@@ -9,6 +9,11 @@ use Rattle.snapshot.proofs.read.Met as read
 use Rattle.host.proofs.avr_tick.Met as avr-tick
 use Rattle.host.proofs.avr_run.Met as avr-run
 use Rattle.tracing.proofs.trace.Met as trace
+use Rattle.hex.proofs.check.check.Met as hex-check
+use Rattle.hex.proofs.read.Met as hex-read
+use Rattle.hex.proofs.write.Met as hex-write
+use Rattle.host.proofs.avr_hex_read.Met as avr-hex-read
+use Rattle.host.proofs.avr_hex_write.Met as avr-hex-write
 use Rattle.by_types.proofs.slice.Met as slice
 use Rattle.by_types.proofs.core.Met as core
 use Rattle.contracts.specs.Contracts.{Contracts}
@@ -25,6 +30,11 @@ contracts =
       avr-tick = avr-tick.met;
       avr-run = avr-run.met;
       trace = trace.met;
+      hex-check = hex-check.met;
+      hex-read = hex-read.met;
+      hex-write = hex-write.met;
+      avr-hex-read = avr-hex-read.met;
+      avr-hex-write = avr-hex-write.met;
       slice = slice.met;
       core = core.met;
     }

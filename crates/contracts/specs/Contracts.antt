@@ -9,6 +9,11 @@ use Rattle.snapshot.proofs.read.Statement as read
 use Rattle.host.proofs.avr_tick.Statement as avr-tick
 use Rattle.host.proofs.avr_run.Statement as avr-run
 use Rattle.tracing.proofs.trace.Statement as trace
+use Rattle.hex.proofs.check.check.Statement as hex-check
+use Rattle.hex.proofs.read.Statement as hex-read
+use Rattle.hex.proofs.write.Statement as hex-write
+use Rattle.host.proofs.avr_hex_read.Statement as avr-hex-read
+use Rattle.host.proofs.avr_hex_write.Statement as avr-hex-write
 use Rattle.by_types.proofs.slice.Statement as slice
 use Rattle.by_types.proofs.core.Statement as core
 
@@ -28,6 +33,14 @@ pub record Contracts : Type 2 where
   pub avr-run : {M : Type 1} → avr-run.statement M
   -- crates/tracing/src/lib.rt
   pub trace : {M : Type 1} → trace.statement M
+  -- crates/hex/src/check.rt
+  pub hex-check : {M : Type 1} → hex-check.statement M
+  -- crates/hex/src/lib.rt
+  pub hex-read : {M : Type 1} → hex-read.statement M
+  pub hex-write : {M : Type 1} → hex-write.statement M
+  -- crates/host/src/hex_files.rt
+  pub avr-hex-read : {M : Type 1} → avr-hex-read.statement M
+  pub avr-hex-write : {M : Type 1} → avr-hex-write.statement M
   -- crates/by_types/src/lib.rt
   pub slice : {M : Type 1} → slice.statement M
   pub core : {M : Type 1} → core.statement M

@@ -11,6 +11,12 @@ use Rattle.table.proofs.HostCalls.{tick-calls-write-the-next-core, run-calls-wr
 use Rattle.tracing.proofs.Example.{example}
 use Rattle.tracing.proofs.Whole.{whole-trace}
 use Rattle.tracing.proofs.Cut.{cut-trace}
+use Rattle.hex.proofs.Exactly.{each-number-exactly}
+use Rattle.hex.proofs.GivenBack.{given-back}
+use Rattle.hex.proofs.Unchanged.{refused-read, refused-write}
+use Rattle.hex.proofs.Once.{named-at-most-once}
+use Rattle.hex.proofs.Whole.{length-text}
+use Rattle.hex.proofs.Computed.{examples}
 use Rattle.promises.specs.Claims.{Claims}
 
 pub claims : Claims
@@ -31,4 +37,11 @@ claims =
       bench-on-the-rust = bench-on-the-rust;
       fresh-cores = fresh-cores-are-sound;
       agreements = agreements;
+      hex-numbers = each-number-exactly;
+      hex-given-back = given-back;
+      hex-refused-read = refused-read;
+      hex-refused-write = refused-write;
+      hex-named-once = named-at-most-once;
+      hex-text-length = length-text;
+      hex-examples = examples;
     }

@@ -7,6 +7,9 @@ use Rattle.source.specs.Bench.{BenchOnTheRust, FreshCoresAreSound}
 use Rattle.manual.specs.Witnesses.{Agreements}
 use Rattle.table.specs.Calls.{TickCallsWriteTheNextCore, RunCallsWriteTheLastCore}
 use Rattle.tracing.specs.Trace.{Example, WholeTrace, CutTrace}
+use Rattle.hex.specs.Answers.{EachNumberExactly}
+use Rattle.hex.specs.Promises.{WritingIsGivenBack, RefusedReadChangesNothing, RefusedWriteChangesNothing, NamedAtMostOnce, TextLength}
+use Rattle.hex.specs.Examples.{Examples}
 
 pub record Claims : Type 0 where
   -- crates/instruction/specs/Fields.antt: a decoded operand is in its field; only four instructions look at the second word
@@ -31,3 +34,13 @@ pub record Claims : Type 0 where
   pub fresh-cores : FreshCoresAreSound
   -- crates/manual/specs/Witnesses.antt: the waits of POP and PUSH, by the manual with every switch off
   pub agreements : Agreements
+  -- crates/hex/specs/Answers.antt: HEX files, each of 02's numbers 50 to 57 exactly where its condition holds, and at which line
+  pub hex-numbers : EachNumberExactly
+  -- crates/hex/specs/Promises.antt: what the writer made is given back; refused, nothing changes; no byte is named twice; how long a text is
+  pub hex-given-back : WritingIsGivenBack
+  pub hex-refused-read : RefusedReadChangesNothing
+  pub hex-refused-write : RefusedWriteChangesNothing
+  pub hex-named-once : NamedAtMostOnce
+  pub hex-text-length : TextLength
+  -- crates/hex/specs/Examples.antt: small files
+  pub hex-examples : Examples
