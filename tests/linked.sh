@@ -13,12 +13,8 @@ fi
 export CC=$cc AR=$ar
 
 can_link() { # NAME TOOLS...: whether the tools and the archive are there; it says what is not run and why
-    what=$1
-    shift
-    for tool in "$@" $emulator; do
-        command -v "$tool" >/dev/null || { echo "not run: $what: no $tool" && return 1; }
-    done
-    [ "$archive" = made ] || { echo "not run: $what: no archive" && return 1; }
+    there "$@" $emulator || return 1
+    [ "$archive" = made ] || { echo "not run: $1: no archive" && return 1; }
 }
 
 make_archive() { # the archive of this code
