@@ -215,6 +215,18 @@ try_trace() { # with a HEX file
     note $? './trace --help on HEX files'
 }
 
+at_a_terminal() { # TEXT COMMAND: the command, typed by a person, ends with 1 and says TEXT
+    script -qec "$2" /dev/null </dev/null >"$work/said"
+    [ $? = 1 ] && grep -q -e "$1" "$work/said"
+    note $? "$2, at a terminal"
+}
+
+try_terminal() {
+    at_a_terminal 'no image; ./trace --help' ./trace
+    at_a_terminal 'no HEX file; ./unhex --help' './unhex >/dev/null'
+    at_a_terminal 'FILE.hex > IMAGE' "./unhex $firmware"
+}
+
 rt check trace unhex >/dev/null </dev/null # so that no case has to prove anything
 for case in tests/hex/*.hex; do
     case=${case#tests/hex/}
@@ -232,6 +244,7 @@ try_meanings
 asks_for_both
 note $? './trace and ./unhex ask rt each time'
 try_trace
+if there 'commands at a terminal' script; then try_terminal; fi
 make_images
 if there 'files of avr-objcopy' avr-objcopy; then try_objcopy; fi
 if there 'files of srec_cat' srec_cat; then try_srec_cat; fi
