@@ -1,7 +1,17 @@
 /* The C interface of crates/host, as `rt staticlib host` builds it (x86-64 Linux).
  * A slice is a pointer and a length: that many bytes that may be read, and written where the pointer is not const. The slices of a call, and `ticks`,
- * must not overlap; nothing here can check that. The numbers returned are those of document 01's table:
- * 1 to 5, 7 to 10 refused; 16 waited, 17 entered, 18 ran, 19 sleep, 20 watchdog, 21 undefined, 22 break, 23 end, 24 budget. */
+ * `line` and `written`, must not overlap; nothing here can check that. The numbers that avr_tick and avr_run return are those of document 01's table:
+ * 1 to 5, 7 to 10 refused; 16 waited, 17 entered, 18 ran, 19 sleep, 20 watchdog, 21 undefined, 22 break, 23 end, 24 budget.
+ * Those of avr_hex_read and avr_hex_write are document 02's: 0 where the call did what it says, or refused with
+ *   50  a character that does not belong in the line
+ *   51  the line's length: it is no whole record, or not as long as its count says, or an end record with data
+ *   52  the line's sum
+ *   53  a record type other than 00 and 01
+ *   54  a byte outside the program
+ *   55  a data line starts below the end of the one before
+ *   56  the end record is missing, or a line stands behind it
+ *   57  a program of more than 65,536 bytes
+ *   58  the text has less room than the program takes */
 #ifndef AVR_CORE_H
 #define AVR_CORE_H
 
@@ -10,6 +20,8 @@
 
 #define AVR_SNAPSHOT_BYTES 38
 #define AVR_NO_OFFER 65536u
+/* The bytes of the HEX text of a program of `n` bytes, the room that avr_hex_write needs. */
+#define AVR_HEX_BYTES(n) ((size_t)(n) * 2 + ((size_t)(n) + 15) / 16 * 12 + 12)
 
 #ifdef __cplusplus
 extern "C" {
@@ -22,6 +34,15 @@ uint32_t avr_tick(uint8_t *snapshot, size_t snapshot_len, const uint8_t *program
 /* Up to `budget` ticks under one held offer; `*ticks` gets the number done. A call refused by a check (7 to 10) leaves `*ticks` as it was. */
 uint32_t avr_run(uint8_t *snapshot, size_t snapshot_len, const uint8_t *program, size_t program_len, uint8_t *data, size_t data_len,
                  uint32_t offer, uint32_t budget, uint32_t *ticks);
+
+/* Reads a HEX file into `program`; bytes that no line names become 0xFF. Record types 00 and 01, digits of either case, lines that end in LF or CR LF, and the
+ * last may lack it. Gives 0 or 50 to 57; `*line` gets the refused line, counted from 1, and 0 where nothing is refused and for 57. A missing end record is named at the
+ * line after the last. A refused call changes no byte of `program`. */
+uint32_t avr_hex_read(const uint8_t *text, size_t text_len, uint8_t *program, size_t program_len, size_t *line);
+
+/* Writes all of `program` as a HEX file into `text`: 16 bytes a line, capitals, LF. Gives 0, 57 or 58; `*written` gets the file's length, AVR_HEX_BYTES(program_len),
+ * and 0 where it is refused. Bytes of `text` behind the file keep what they held; a refused call changes none. */
+uint32_t avr_hex_write(const uint8_t *program, size_t program_len, uint8_t *text, size_t text_len, size_t *written);
 
 #ifdef __cplusplus
 }

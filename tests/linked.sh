@@ -1,4 +1,5 @@
-# Where the tools are there: the programs of host/c, the tests and the example of host/rust, and firmware/check, over the archive that `rt staticlib host` writes.
+# Where the tools are there: the programs of host/c, the tests and examples of host/rust, other tools on the HEX files that the port writes, and firmware/check, over the
+# archive that `rt staticlib host` writes.
 # The archive is for x86-64. On an Arm machine Debian's cross compiler, its Rust with the library for x86-64 and an emulator stand in (as root, tests/install gets them).
 # Read by tests/run.
 archive=''
@@ -29,12 +30,35 @@ with_cargo() { # FOLDER WORDS...
 }
 
 says_first() { # COMMAND...: prints what README says of the first program
-    [ "$("$@")" = 'answer 22 after 4 ticks, R16 is 5' ]
+    [ "$("$@" tests/hex/example.hex)" = 'answer 22 after 4 ticks, R16 is 5' ]
+}
+
+try_first() { # PROGRAM: README's first program on its file, on one with a wrong sum and on none
+    quietly "$1" says_first $emulator "$1"
+    sed '1s/9551/9550/' tests/hex/example.hex >"$work/wrong_sum.hex"
+    runs_nothing "/wrong_sum.hex: refused-52 at line 1$" $emulator "$1" "$work/wrong_sum.hex"
+    note $? "$1 on a file with a wrong sum"
+    runs_nothing '^no_such_file: cannot be read' $emulator "$1" no_such_file
+    note $? "$1 on no file"
 }
 
 says_what_to_run() { # host/rust, with no archive, names the command that writes it
     said=$(AVR_CORE_LIB=$work/nowhere "$cargo" build --quiet --offline --release $target --manifest-path host/rust/Cargo.toml --target-dir target/cargo 2>&1)
     [ $? != 0 ] && echo "$said" | grep -q 'run `rt staticlib host`'
+}
+
+make_programs() { # of these lengths, from the bytes of the archive; the other tools take no file without data
+    cat target/staticlib/libhost.a target/staticlib/libhost.a >"$work/bytes"
+    for length in 1 15 16 17 4096 65535 65536; do
+        dd if="$work/bytes" of="$work/$length.program" bs="$length" count=1 2>/dev/null
+    done
+}
+
+gives_back() { # COMMAND...: each program, written by the port as `written.hex` and read by the command into `back`, is the same again
+    for program in "$work"/*.program firmware/*.bin; do
+        rm -f "$work/back"
+        $emulator "$built/examples/to_hex" <"$program" >"$work/written.hex" && "$@" && cmp "$program" "$work/back" || return 1
+    done
 }
 
 make_archive
@@ -44,15 +68,26 @@ if can_link host/c "$cc"; then
         quietly "host/c/$program.c" "$cc" -Iinclude "host/c/$program.c" target/staticlib/libhost.a -o "target/$program"
     done
     quietly target/example $emulator target/example
-    quietly target/first says_first $emulator target/first
+    try_first target/first
 fi
 
 if can_link host/rust "$cargo" "$cc"; then
+    make_programs
     says_what_to_run
     note $? 'host/rust without the archive'
     with_cargo host/rust test
-    with_cargo host/rust build --example first
-    quietly 'host/rust/examples/first.rs' says_first $emulator "$built/examples/first"
+    with_cargo host/rust build --examples
+    try_first "$built/examples/first"
+    runs_nothing 'refused-57' $emulator "$built/examples/to_hex" <"$work/bytes"
+    note $? 'to_hex on too long a program'
+fi
+
+if can_link 'avr-objcopy on what the port wrote' "$cargo" "$cc" avr-objcopy; then
+    quietly 'avr-objcopy on what the port wrote' gives_back avr-objcopy -I ihex -O binary "$work/written.hex" "$work/back"
+fi
+
+if can_link 'srec_cat on what the port wrote' "$cargo" "$cc" srec_cat; then
+    quietly 'srec_cat on what the port wrote' gives_back srec_cat "$work/written.hex" -intel -o "$work/back" -binary
 fi
 
 if can_link firmware/check "$cargo" "$cc" "$ar"; then

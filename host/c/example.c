@@ -1,19 +1,35 @@
-/* Runs document 01's example through the C interface, and fails where an answer is not the one it names. */
+/* Runs document 01's example through the C interface, writes it as a HEX file and reads that back; fails where an answer is not the one that the documents name. */
 #include "avr_core.h"
 #include <stdio.h>
+#include <string.h>
 
 static const uint8_t program[] = {0x05, 0xE0, 0x01, 0x96, 0x98, 0x95}; /* LDI R16,5; ADIW R25:R24,1; BREAK */
 static const uint32_t answers[] = {18, 18, 16, 22};                    /* ran, ran, waited, break */
 
-int main(void) {
+static int ticks_and_runs(void) {
     static uint8_t data[16384];
     uint8_t snapshot[AVR_SNAPSHOT_BYTES] = {0}, again[AVR_SNAPSHOT_BYTES] = {0};
     uint32_t ticks = 0;
     for (int i = 0; i < 4; i++) {
         uint32_t answer = avr_tick(snapshot, sizeof snapshot, program, sizeof program, data, sizeof data, AVR_NO_OFFER);
         printf("%u\n", (unsigned)answer);
-        if (answer != answers[i]) return 1;
+        if (answer != answers[i]) return 0;
     }
-    if (avr_run(again, sizeof again, program, sizeof program, data, sizeof data, AVR_NO_OFFER, 10, &ticks) != 22 || ticks != 4) return 1;
-    return snapshot[16] == 5 && again[16] == 5 ? 0 : 1;
+    if (avr_run(again, sizeof again, program, sizeof program, data, sizeof data, AVR_NO_OFFER, 10, &ticks) != 22 || ticks != 4) return 0;
+    return snapshot[16] == 5 && again[16] == 5;
+}
+
+static int writes_and_reads(void) {
+    uint8_t text[AVR_HEX_BYTES(sizeof program)], back[sizeof program] = {0};
+    size_t written = 0, line = 0;
+    if (avr_hex_write(program, sizeof program, text, sizeof text, &written) != 0 || written != sizeof text) return 0;
+    printf("%.*s", (int)written, (const char *)text);
+    if (memcmp(text, ":0600000005E00196989551\n:00000001FF\n", written) != 0) return 0;
+    if (avr_hex_read(text, written, back, sizeof back, &line) != 0 || line != 0 || memcmp(back, program, sizeof back) != 0) return 0;
+    text[22] = '2'; /* the sum of line 1 */
+    return avr_hex_read(text, written, back, sizeof back, &line) == 52 && line == 1 && memcmp(back, program, sizeof back) == 0;
+}
+
+int main(void) {
+    return ticks_and_runs() && writes_and_reads() ? 0 : 1;
 }

@@ -19,6 +19,8 @@ extern "C" {
         budget: u32,
         ticks: *mut u32,
     ) -> u32;
+    fn avr_hex_read(text: *const u8, text_len: usize, program: *mut u8, program_len: usize, line: *mut usize) -> u32;
+    fn avr_hex_write(program: *const u8, program_len: usize, text: *mut u8, text_len: usize, written: *mut usize) -> u32;
 }
 
 /// One tick of the core in `snapshot`; the answer's number in document 01's table. A refused call changes no byte.
@@ -45,6 +47,29 @@ pub fn run(snapshot: &mut [u8], program: &[u8], data: &mut [u8], offer: u32, bud
         )
     };
     (answer, ticks)
+}
+
+/// The bytes of the HEX text of a program of `program_bytes` bytes, the room that `hex_write` needs.
+pub const fn hex_bytes(program_bytes: usize) -> usize {
+    program_bytes * 2 + (program_bytes + 15) / 16 * 12 + 12
+}
+
+/// Reads a HEX file into `program`; bytes that no line names become 0xFF. 0 and 0, or document 02's number, 50 to 57, and the refused line, counted from 1 (0 for 57).
+/// A refused call changes no byte.
+pub fn hex_read(text: &[u8], program: &mut [u8]) -> (u32, usize) {
+    let mut line = 0;
+    // As above; `line` is a local of this call.
+    let refusal = unsafe { avr_hex_read(text.as_ptr(), text.len(), program.as_mut_ptr(), program.len(), &mut line) };
+    (refusal, line)
+}
+
+/// Writes all of `program` as a HEX file into `text`, of which bytes behind the file keep what they held. 0 and the file's length, or document 02's number, 57 or 58,
+/// and 0. A refused call changes no byte.
+pub fn hex_write(program: &[u8], text: &mut [u8]) -> (u32, usize) {
+    let mut written = 0;
+    // As above; `written` is a local of this call.
+    let refusal = unsafe { avr_hex_write(program.as_ptr(), program.len(), text.as_mut_ptr(), text.len(), &mut written) };
+    (refusal, written)
 }
 
 #[cfg(test)]
@@ -83,5 +108,30 @@ mod tests {
         assert_eq!(tick(&mut snapshot[..37], &PROGRAM, &mut data, NO_OFFER), 7);
         assert_eq!(run(&mut snapshot, &PROGRAM, &mut data, 65_537, 9), (10, 0));
         assert_eq!((snapshot, data), (before, [7; 4]));
+    }
+
+    const TEXT: &[u8] = b":0600000005E00196989551\n:00000001FF\n";
+
+    #[test]
+    fn writes_a_hex_file_and_reads_it_back() {
+        let (mut text, mut program) = ([b'?'; hex_bytes(PROGRAM.len()) + 1], [0; 8]);
+        assert_eq!(hex_write(&PROGRAM, &mut text), (0, TEXT.len()));
+        assert_eq!((&text[..TEXT.len()], text[TEXT.len()]), (TEXT, b'?'));
+        assert_eq!(hex_read(TEXT, &mut program), (0, 0));
+        assert_eq!((&program[..6], &program[6..]), (&PROGRAM[..], &[0xFF, 0xFF][..]));
+    }
+
+    #[test]
+    fn refused_hex_files_change_nothing() {
+        let (mut text, mut program, mut long) = ([b'?'; 35], [7; 6], vec![7; 65_537]);
+        let no_end = TEXT[..24].repeat(2);
+        assert_eq!(hex_read(&no_end, &mut program), (55, 2));
+        assert_eq!(hex_read(&no_end[..24], &mut program), (56, 2));
+        assert_eq!(hex_read(TEXT, &mut program[..5]), (54, 1));
+        assert_eq!(hex_read(b"", &mut long), (57, 0));
+        assert_eq!(hex_write(&long, &mut text), (57, 0));
+        assert_eq!(hex_write(&PROGRAM, &mut text), (58, 0));
+        assert_eq!((text, program), ([b'?'; 35], [7; 6]));
+        assert!(long.iter().all(|&byte| byte == 7));
     }
 }
