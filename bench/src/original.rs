@@ -9,7 +9,7 @@ use memory::{Memory, MemoryMapped};
 
 #[allow(dead_code, clippy::all)]
 mod cores {
-    include!(concat!(env!("AVREMU_FOLDER"), "/src/cores.rs"));
+    include!(concat!(env!("AVREMU_FOLDER", "no source of the original; set AVREMU_SRC to its folder"), "/src/cores.rs"));
 }
 
 #[allow(dead_code, clippy::all)]
