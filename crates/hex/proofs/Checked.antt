@@ -4,14 +4,16 @@ use mathlib.Core.Path.{_≡_, refl}
 use mathlib.Core.Bool.{Bool, true, false}
 use mathlib.Core.Logic.{_⊎_, inl, inr}
 use mathlib.Core.List.{List, [], _∷_}
-use Prim.Native.Nat.{ℕ, suc, _+_, _≤_, _<_}
+use Prim.Native.Nat.{ℕ, suc, _+_, _*_, _-_, _≤_, _<_}
 use native.Mathlib.Omega.{arith}
 use lib.Dec.{eqb}
-use lib.ListN.{length, drop}
+use lib.ListN.{length, drop, take, length-drop}
+use lib.Seq.{take-all, length-take-le}
 use borrow.Author.Tests.{ne-eqb, eqb-true, eqb-false}
-use Rattle.hex_line.specs.Line.{linesOf, typeOf, isEnd, endOf, faultOf}
-use Rattle.hex_line.specs.Way.{lineAt, Fits}
-use Rattle.hex_line.proofs.Found.{found, no-lines}
+use Rattle.hex_line.specs.Line.{linesOf, countOf, typeOf, isEnd, endOf, faultOf}
+use Rattle.hex_line.specs.Way.{endLength, stopOf, lineAt, Fits}
+use Rattle.hex_line.proofs.Found.{Found, found, no-lines}
+use Rattle.hex_line.proofs.RecordBytes.{count-of-part}
 use Rattle.hex_line.proofs.Judged.{fits}
 use Rattle.hex.specs.Reading.{answer, behindEnd, checked}
 
@@ -80,3 +82,21 @@ first-fits (line f r) = f
 
 pub rest-fits : {size : ℕ} {l : List ℕ} {ls : List (List ℕ)} → AllFit size (l ∷ ls) → AllFit size ls
 rest-fits (line f r) = r
+
+-- a line that fits ends where its count, n, says
+pub by-count : {size : ℕ} (t : List ℕ) (at n : ℕ) → at < length t → AllFit size (linesOf (drop at t)) → n ≡ countOf (take (length t - at) (drop at t))
+    → Found t at (at + n * 2 + 11) (at + n * 2 + 11 + endLength (drop (at + n * 2 + 11) t))
+by-count t at n h fit e =
+    let f = found t at (lineAt t at) h refl in
+    let u = drop at t in
+    let stop = stopOf t at in
+    let d : length u ≡ length t - at = length-drop at t in
+    let a = f .starts in
+    let b = f .stops in
+    let c = f .fits in
+    let m : length (take (stop - at) u) ≡ stop - at = length-take-le (stop - at) u (omega arith) in
+    let long = first-fits (rw (f .lines) at fit) .long in
+    let first : countOf (take (stop - at) u) ≡ countOf u = count-of-part (stop - at) u (omega arith) (omega arith) in
+    let whole : n ≡ countOf u = rw (take-all (length t - at) u (omega arith)) at e in
+    let k : stop ≡ at + n * 2 + 11 = omega arith in
+    rw (← k) f

@@ -2,7 +2,7 @@
 use hex_line::address;
 use hex_line::count;
 use hex_line::data_byte;
-use hex_line::line_at;
+use hex_line::end_length;
 ghost use mathlib.Core.Path.{_≡_};
 ghost use lib.ListN.{length, replicate};
 ghost use lib.Seq.{sets};
@@ -40,9 +40,9 @@ pub fn fill(text: &[u8], program: &mut [u8])
     blank(program);
     let mut at: usize = 0;
     while at < text.len() {
-        let found = line_at(text, at);
-        let stop = found.stop;
+        // no search for the line's end: a line without a fault is as long as its count says
+        let stop = at + count(&text[at..]) as usize * 2 + 11;
         fill_line(&text[at..stop], program);
-        at = found.next;
+        at = stop + end_length(text, stop);
     }
 }

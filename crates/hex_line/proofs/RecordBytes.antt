@@ -5,9 +5,9 @@ use mathlib.Core.List.{List, [], _∷_}
 use Prim.Native.Nat.{ℕ, zero, suc, _+_, _*_, _%_, _≤_, _<_}
 use native.Mathlib.Omega.{arith}
 use native.Mathlib.Numerals.{add-one}
-use lib.ListN.{length, drop, getD, length-drop}
-use lib.Seq.{drop-cons}
-use Rattle.hex_line.specs.Line.{valueOf, said, sumOf, recordOf}
+use lib.ListN.{length, drop, take, getD, length-drop}
+use lib.Seq.{drop-cons, getD-take, length-take-le}
+use Rattle.hex_line.specs.Line.{valueOf, said, sumOf, recordOf, countOf}
 
 -- ---- byte k of a record: the digits at 2 k + 1 and 2 k + 2
 said-at : (t : List ℕ) (k : ℕ) → k * 2 + 1 < length t → getD (said t) k 0 ≡ valueOf (getD t (k * 2) 0) * 16 + valueOf (getD t (k * 2 + 1) 0)
@@ -35,6 +35,12 @@ byte-at (c ∷ t) k h = let e : k * 2 + 1 + 1 ≡ suc (k * 2 + 1) = omega arith 
 pub byte-none : (l : List ℕ) (k : ℕ) → length l ≤ k * 2 + 1 + 1 → getD (recordOf l) k 0 ≡ 0
 byte-none [] k h = said-none [] k (omega arith)
 byte-none (c ∷ t) k h = said-none t k (omega arith)
+
+-- a line's count by its first characters
+pub count-of-part : (n : ℕ) (t : List ℕ) → 3 ≤ n → n ≤ length t → countOf (take n t) ≡ countOf t
+count-of-part n t h k =
+    let e : length (take n t) ≡ n = length-take-le n t k in
+    rw (byte-at (take n t) 0 (omega arith), byte-at t 0 (omega arith), getD-take n t 1 0 (omega arith), getD-take n t 2 0 (omega arith))
 
 -- ---- the sum
 said-step : (l : List ℕ) (i : ℕ) → i + 1 < length l

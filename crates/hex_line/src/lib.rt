@@ -5,6 +5,7 @@ mod lines;
 mod records;
 
 pub use faults::fault;
+pub use lines::end_length;
 pub use lines::line_at;
 pub use records::address;
 pub use records::count;

@@ -5,7 +5,7 @@ ghost use lib.ListN.{drop};
 ghost use Rattle.hex_line.specs.Way.{endLength, lineAt};
 
 // How long the line's end is that stands here: an LF 1, a CR and an LF 2, anything else 0.
-fn end_length(text: &[u8], at: usize) -> usize
+pub fn end_length(text: &[u8], at: usize) -> usize
     ensures { λ r. ⌜ r ≡ endLength (drop at (now (text .entry))) ⌝ }
 {
     if at >= text.len() {
