@@ -27,7 +27,7 @@ length-said (c ∷ d ∷ t) zero h = absurd (omega arith)
 length-said (c ∷ d ∷ t) (suc k) h = rw (length-said t k (omega arith))
 
 module _ {size : ℕ} (l : List ℕ) (f : Fits size l) where
-  length-data : length (dataOf l) ≡ countOf l
+  pub length-data : length (dataOf l) ≡ countOf l
   length-data =
       let h = f .long in
       let r : length (recordOf l) ≡ countOf l + 5 = length-said (drop 1 l) (countOf l + 5) (length-drop 1 l ∙ omega arith) in

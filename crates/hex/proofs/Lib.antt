@@ -10,3 +10,4 @@ pub mod Unchanged
 pub mod Once
 pub mod Exactly
 pub mod Computed
+pub mod EachByte

@@ -54,7 +54,7 @@ once size (x ∷ before) l between m after n end h a names names′ =
     let (e, k) = a-data-line size n end x before l (between ++ (m ∷ after)) h in
     once size before l between m after (n + 1) (endOf x) k a names names′
 
-by-size : (t : List ℕ) (size : ℕ) (large : Bool) → ltb 65536 size ≡ large → readOf t size .refusal ≡ 0 → checked size 1 0 (linesOf t) .refusal ≡ 0
+pub by-size : (t : List ℕ) (size : ℕ) (large : Bool) → ltb 65536 size ≡ large → readOf t size .refusal ≡ 0 → checked size 1 0 (linesOf t) .refusal ≡ 0
 by-size t size true e h = never 56 (rw e at h)
   where
     never : {X : Type 0} (n : ℕ) → suc n ≡ 0 → X

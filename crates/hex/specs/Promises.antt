@@ -2,10 +2,10 @@
 -- t is a text, p a program, b a buffer before the call, o the writer's output buffer, l and m lines, a an address.
 use mathlib.Core.Path.{_≡_}
 use mathlib.Core.List.{List, _∷_, _++_}
-use Prim.Native.Nat.{ℕ, _+_, _*_, _/_, _≤_, _<_}
-use lib.ListN.{length, take}
+use Prim.Native.Nat.{ℕ, _+_, _*_, _/_, _-_, _≤_, _<_}
+use lib.ListN.{length, take, getD}
 use Rattle.basis.specs.Bytes.{Bytes}
-use Rattle.hex_line.specs.Line.{linesOf, addressOf, endOf}
+use Rattle.hex_line.specs.Line.{linesOf, addressOf, dataOf, endOf}
 use Rattle.hex.specs.Reading.{answer, readOf, programOf}
 use Rattle.hex.specs.Writing.{textOf, writeOf, bufferOf}
 
@@ -36,6 +36,18 @@ NamedAtMostOnce =
     (t : List ℕ) (size : ℕ) → readOf t size .refusal ≡ 0
     → (before between after : List (List ℕ)) (l m : List ℕ) → linesOf t ≡ before ++ (l ∷ (between ++ (m ∷ after)))
     → (a : ℕ) → Names l a → Names m a → ⊥
+
+-- and what is then in the buffer: a byte that a line names is that line's, and "Bytes no line names become 0xFF"
+pub record EachByte (t b : List ℕ) (a : ℕ) : Type 0 where
+  pub named :
+      (before after : List (List ℕ)) (l : List ℕ) → linesOf t ≡ before ++ (l ∷ after) → Names l a
+      → getD (programOf t b) a 0 ≡ getD (dataOf l) (a - addressOf l) 0
+  pub unnamed :
+      ((before after : List (List ℕ)) (l : List ℕ) → linesOf t ≡ before ++ (l ∷ after) → Names l a → ⊥)
+      → a < length b → getD (programOf t b) a 0 ≡ 0xFF
+
+abbrev pub EachByteOfAFileRead : Type 0
+EachByteOfAFileRead = (t b : List ℕ) → readOf t (length b) .refusal ≡ 0 → (a : ℕ) → EachByte t b a
 
 -- how much room the writer needs: two digits a byte; for each line, of 16 bytes or less, a colon, ten digits and an LF; and the end record
 abbrev pub TextLength : Type 0

@@ -15,6 +15,7 @@ use Rattle.hex.proofs.Exactly.{each-number-exactly}
 use Rattle.hex.proofs.GivenBack.{given-back}
 use Rattle.hex.proofs.Unchanged.{refused-read, refused-write}
 use Rattle.hex.proofs.Once.{named-at-most-once}
+use Rattle.hex.proofs.EachByte.{each-byte}
 use Rattle.hex.proofs.Whole.{length-text}
 use Rattle.hex.proofs.Computed.{examples}
 use Rattle.promises.specs.Claims.{Claims}
@@ -42,6 +43,7 @@ claims =
       hex-refused-read = refused-read;
       hex-refused-write = refused-write;
       hex-named-once = named-at-most-once;
+      hex-each-byte = each-byte;
       hex-text-length = length-text;
       hex-examples = examples;
     }

@@ -8,7 +8,7 @@ use Rattle.manual.specs.Witnesses.{Agreements}
 use Rattle.table.specs.Calls.{TickCallsWriteTheNextCore, RunCallsWriteTheLastCore}
 use Rattle.tracing.specs.Trace.{Example, WholeTrace, CutTrace}
 use Rattle.hex.specs.Answers.{EachNumberExactly}
-use Rattle.hex.specs.Promises.{WritingIsGivenBack, RefusedReadChangesNothing, RefusedWriteChangesNothing, NamedAtMostOnce, TextLength}
+use Rattle.hex.specs.Promises.{WritingIsGivenBack, RefusedReadChangesNothing, RefusedWriteChangesNothing, NamedAtMostOnce, EachByteOfAFileRead, TextLength}
 use Rattle.hex.specs.Examples.{Examples}
 
 pub record Claims : Type 0 where
@@ -36,11 +36,12 @@ pub record Claims : Type 0 where
   pub agreements : Agreements
   -- crates/hex/specs/Answers.antt: HEX files, each of 02's numbers 50 to 57 exactly where its condition holds, and at which line
   pub hex-numbers : EachNumberExactly
-  -- crates/hex/specs/Promises.antt: what the writer made is given back; refused, nothing changes; no byte is named twice; how long a text is
+  -- crates/hex/specs/Promises.antt: what the writer made is given back; refused, nothing changes; no byte is named twice; what each byte then is; how long a text is
   pub hex-given-back : WritingIsGivenBack
   pub hex-refused-read : RefusedReadChangesNothing
   pub hex-refused-write : RefusedWriteChangesNothing
   pub hex-named-once : NamedAtMostOnce
+  pub hex-each-byte : EachByteOfAFileRead
   pub hex-text-length : TextLength
   -- crates/hex/specs/Examples.antt: small files
   pub hex-examples : Examples
