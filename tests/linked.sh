@@ -61,6 +61,14 @@ gives_back() { # COMMAND...: each program, written by the port as `written.hex` 
     done
 }
 
+in_readme() { # FILE: README has it whole, indented
+    sed 's/^./    &/' "$1" >"$work/indented"
+    awk 'NR == FNR { text = text $0 "\n"; next } { readme = readme $0 "\n" } END { exit index(readme, text) == 0 }' "$work/indented" README.md
+    note $? "README on $1"
+}
+
+in_readme host/c/first.c
+in_readme host/rust/examples/first.rs
 make_archive
 
 if can_link host/c "$cc"; then

@@ -20,7 +20,7 @@ unfoldable pub endAfter : ℕ → List (List ℕ) → ℕ
 endAfter end [] = end
 endAfter end (l ∷ ls) = endAfter (endOf l) ls
 
--- line n is the first after good data lines, and what is wrong with it
+-- line n, the first behind good data lines, and what is wrong with it where the data line before ended at `end`
 pub record At (t : List ℕ) (size n : ℕ) (Wrong : ℕ → List ℕ → Bool) : Type 0 where
   pub small : size ≤ 65536
   pub before : List (List ℕ)
@@ -54,19 +54,29 @@ pub record Behind (t : List ℕ) (size n : ℕ) : Type 0 where
   pub end : Ends t size (line ∷ after)
   pub number : n ≡ length (end .before) + 2
 
--- ---- "lowest number first on that line": each is asked only where the lower ones are not given
+-- ---- "lowest number first on that line": a line without 50, without 50 and 51, and so on
+abbrev pub spelled : List ℕ → Bool
+spelled l = not (wrongCharacter l)
+
+abbrev pub whole : List ℕ → Bool
+whole l = spelled l && not (wrongLength l)
+
+abbrev pub summed : List ℕ → Bool
+summed l = whole l && not (wrongSum l)
+
+abbrev pub known : List ℕ → Bool
+known l = summed l && not (wrongType l)
+
+abbrev pub placed : ℕ → List ℕ → Bool
+placed size l = known l && not (outside size l)
+
 pub record Answers (t : List ℕ) (size n : ℕ) : Type 0 where
   pub fifty : (readOf t size ≡ answer 50 n) ↔ At t size n (λ end l. wrongCharacter l)
-  pub fifty-one : (readOf t size ≡ answer 51 n) ↔ At t size n (λ end l. not (wrongCharacter l) && wrongLength l)
-  pub fifty-two : (readOf t size ≡ answer 52 n) ↔ At t size n (λ end l. not (wrongCharacter l) && not (wrongLength l) && wrongSum l)
-  pub fifty-three :
-      (readOf t size ≡ answer 53 n) ↔ At t size n (λ end l. not (wrongCharacter l) && not (wrongLength l) && not (wrongSum l) && wrongType l)
-  pub fifty-four :
-      (readOf t size ≡ answer 54 n)
-      ↔ At t size n (λ end l. not (wrongCharacter l) && not (wrongLength l) && not (wrongSum l) && not (wrongType l) && outside size l)
-  pub fifty-five :
-      (readOf t size ≡ answer 55 n)
-      ↔ At t size n (λ end l. not (wrongCharacter l) && not (wrongLength l) && not (wrongSum l) && not (wrongType l) && not (outside size l) && falls end l)
+  pub fifty-one : (readOf t size ≡ answer 51 n) ↔ At t size n (λ end l. spelled l && wrongLength l)
+  pub fifty-two : (readOf t size ≡ answer 52 n) ↔ At t size n (λ end l. whole l && wrongSum l)
+  pub fifty-three : (readOf t size ≡ answer 53 n) ↔ At t size n (λ end l. summed l && wrongType l)
+  pub fifty-four : (readOf t size ≡ answer 54 n) ↔ At t size n (λ end l. known l && outside size l)
+  pub fifty-five : (readOf t size ≡ answer 55 n) ↔ At t size n (λ end l. placed size l && falls end l)
   pub fifty-six : (readOf t size ≡ answer 56 n) ↔ (NoEnd t size n ⊎ Behind t size n)
   pub fifty-seven : (readOf t size ≡ answer 57 n) ↔ ((65536 < size) × (n ≡ 0))
   pub read : (readOf t size ≡ answer 0 n) ↔ (Ends t size [] × (n ≡ 0))

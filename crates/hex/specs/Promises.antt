@@ -9,7 +9,7 @@ use Rattle.hex_line.specs.Line.{linesOf, addressOf, dataOf, endOf}
 use Rattle.hex.specs.Reading.{answer, readOf, programOf}
 use Rattle.hex.specs.Writing.{textOf, writeOf, bufferOf}
 
--- "What the writer made, the reader gives back into a buffer as long", whatever the buffer held
+-- "What the writer made, the reader gives back into a buffer as long", whatever the buffer held; `Bytes` holds of every lent slice (crates/by_types)
 pub record GivenBack (t p b : List ℕ) : Type 0 where
   pub answered : readOf t (length b) ≡ answer 0 0
   pub bytes : programOf t b ≡ p
@@ -37,7 +37,7 @@ NamedAtMostOnce =
     → (before between after : List (List ℕ)) (l m : List ℕ) → linesOf t ≡ before ++ (l ∷ (between ++ (m ∷ after)))
     → (a : ℕ) → Names l a → Names m a → ⊥
 
--- and what is then in the buffer: a byte that a line names is that line's, and "Bytes no line names become 0xFF"
+-- and what the buffer then holds: a byte that a line names is that line's, and "Bytes no line names become 0xFF"
 pub record EachByte (t b : List ℕ) (a : ℕ) : Type 0 where
   pub named :
       (before after : List (List ℕ)) (l : List ℕ) → linesOf t ≡ before ++ (l ∷ after) → Names l a

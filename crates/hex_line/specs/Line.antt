@@ -1,5 +1,5 @@
 -- Document 02, W1: the lines of a HEX file, the record of a line, and the faults of a line.
--- t is a text, c a character of it, l a line, s bytes; `size` is the buffer's, `end` where the data line before ended.
+-- t is a text, c and d characters, l a line, b a byte, s bytes; `size` is the buffer's, `end` where the data line before ended.
 use mathlib.Core.Bool.{Bool, true, false, not, _&&_, _||_}
 use mathlib.Core.List.{List, [], _∷_}
 use Prim.Native.Nat.{ℕ, _+_, _*_, _%_, _-_}

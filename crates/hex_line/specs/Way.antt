@@ -1,4 +1,5 @@
--- How the code goes through a text: numbers of characters, and places. That these are the lines of `linesOf` is proved (proofs/Found.antt).
+-- How the code goes through a text and reads a digit. That it comes to the lines of `linesOf` and to `valueOf` is proved (proofs/Found.antt, proofs/Table.antt).
+-- t is a text, c a character, l a line, j the number of a data byte, `at` a place.
 use mathlib.Core.Path.{_≡_}
 use mathlib.Core.Bool.{true, _&&_}
 use mathlib.Core.List.{List, [], _∷_}
