@@ -4,7 +4,7 @@ use mathlib.Core.Path.{_≡_, refl}
 use mathlib.Core.Bool.{Bool, true, false}
 use mathlib.Core.Logic.{_⊎_, inl, inr}
 use mathlib.Core.List.{List, [], _∷_}
-use Prim.Native.Nat.{ℕ, suc, _+_, _*_, _-_, _≤_, _<_}
+use Prim.Native.Nat.{ℕ, _+_, _*_, _-_, _≤_, _<_}
 use native.Mathlib.Omega.{arith}
 use lib.Dec.{eqb}
 use lib.ListN.{length, drop, take, length-drop}
@@ -14,7 +14,7 @@ use Rattle.hex_line.specs.Line.{linesOf, countOf, typeOf, isEnd, endOf, faultOf
 use Rattle.hex_line.specs.Way.{endLength, stopOf, lineAt, Fits}
 use Rattle.hex_line.proofs.Found.{Found, found, no-lines}
 use Rattle.hex_line.proofs.RecordBytes.{count-of-part}
-use Rattle.hex_line.proofs.Judged.{fits}
+use Rattle.hex_line.proofs.Judged.{never, fits}
 use Rattle.hex.specs.Reading.{answer, behindEnd, checked}
 
 -- ---- one line more
@@ -42,17 +42,17 @@ pub no-more : (n : ℕ) (t : List ℕ) (at : ℕ) → length t ≤ at → behind
 no-more n t at h = rw (no-lines t at h)
 
 -- ---- lines that are not refused
-never : {X : Type 0} (n : ℕ) → suc n ≡ 0 → X
-never n h = absurd (omega arith)
-
 nothing-behind : (n : ℕ) (ls : List (List ℕ)) → behindEnd n ls .refusal ≡ 0 → ls ≡ []
 nothing-behind n [] h = refl
 nothing-behind n (l ∷ ls) h = never 55 h
 
--- the first has no fault; it is the end record and the last, or the rest is not refused
+-- behind a line without a fault: it is the end record and the last, or the rest is not refused
+abbrev pub Then : ℕ → ℕ → List ℕ → List (List ℕ) → Type 0
+Then size n l ls = ((isEnd l ≡ true) × (ls ≡ [])) ⊎ ((isEnd l ≡ false) × (checked size (n + 1) (endOf l) ls .refusal ≡ 0))
+
 pub record Passed (size n end : ℕ) (l : List ℕ) (ls : List (List ℕ)) : Type 0 where
   pub right : faultOf size end l ≡ 0
-  pub rest : ((isEnd l ≡ true) × (ls ≡ [])) ⊎ ((isEnd l ≡ false) × (checked size (n + 1) (endOf l) ls .refusal ≡ 0))
+  pub rest : Then size n l ls
 
 passed-by : (size n end : ℕ) (l : List ℕ) (ls : List (List ℕ)) (a b : Bool) → eqb (faultOf size end l) 0 ≡ a → isEnd l ≡ b
     → checked size n end (l ∷ ls) .refusal ≡ 0 → Passed size n end l ls
@@ -73,7 +73,7 @@ pub all-fit : (size : ℕ) (ls : List (List ℕ)) (n end : ℕ) → checked size
 all-fit size [] n end h = no-line
 all-fit size (l ∷ ls) n end h = let p = passed size n end l ls h in line (fits size end l (p .right)) (go (all-fit size ls) (p .rest))
   where
-    go : ((n end : ℕ) → checked size n end ls .refusal ≡ 0 → AllFit size ls) → ((isEnd l ≡ true) × (ls ≡ [])) ⊎ ((isEnd l ≡ false) × (checked size (n + 1) (endOf l) ls .refusal ≡ 0)) → AllFit size ls
+    go : ((n end : ℕ) → checked size n end ls .refusal ≡ 0 → AllFit size ls) → Then size n l ls → AllFit size ls
     go later (inl (e, k)) = rw k no-line
     go later (inr (e, k)) = later (n + 1) (endOf l) k
 

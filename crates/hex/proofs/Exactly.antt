@@ -16,7 +16,7 @@ use Rattle.hex_line.proofs.Judged.{fault-numbers}
 use Rattle.hex.specs.declared.check.Read.{Read}
 use Rattle.hex.specs.Reading.{answer, behindEnd, checked, readOf}
 use Rattle.hex.specs.Answers.{goodData, endAfter, At, Ends, NoEnd, Behind, EachNumberExactly}
-use Rattle.hex.proofs.Checked.{faulty}
+use Rattle.hex.proofs.Checked.{faulty, last}
 
 -- ---- from the lines to the answer
 past : (size : ℕ) (before rest : List (List ℕ)) (n end : ℕ) → goodData size end before ≡ true
@@ -29,27 +29,23 @@ past size (l ∷ before) rest n end h =
     let e : n + suc (length before) ≡ n + 1 + length before = omega arith in
     rw (right, not-true (isEnd l) on, e) (past size before rest (n + 1) (endOf l) rest-good)
 
-module _ (size n end : ℕ) (l : List ℕ) (after : List (List ℕ)) where
-  last : faultOf size end l ≡ 0 → isEnd l ≡ true → checked size n end (l ∷ after) ≡ behindEnd (n + 1) after
-  unfolding checked
-  last h k = rw (h, k)
-
 module _ (t : List ℕ) (size : ℕ) where
   small-read : size ≤ 65536 → readOf t size ≡ checked size 1 0 (linesOf t)
   small-read h = rw (le-ltb 65536 size h)
 
   from-at : (n k : ℕ) → (k ≡ 0 → ⊥) → At t size n (λ end l. eqb (faultOf size end l) k) → readOf t size ≡ answer k n
   from-at n k h w =
-      let f : faultOf size (endAfter 0 (w .before)) (w .line) ≡ k = eqb-true _ k (w .wrong) in
+      let end = endAfter 0 (w .before) in
+      let f : faultOf size end (w .line) ≡ k = eqb-true _ k (w .wrong) in
       let e : 1 + length (w .before) ≡ n = omega (arith, w .number) in
-      small-read (w .small)
-      ∙ rw (w .lines, past size (w .before) (w .line ∷ w .after) 1 0 (w .good), faulty size (1 + length (w .before)) (endAfter 0 (w .before)) (w .line) (w .after) (λ z. h (sym f ∙ z)), f, e)
+      let refused = faulty size (1 + length (w .before)) end (w .line) (w .after) (λ z. h (sym f ∙ z)) in
+      small-read (w .small) ∙ rw (w .lines, past size (w .before) (w .line ∷ w .after) 1 0 (w .good), refused, f, e)
 
   from-ends : (after : List (List ℕ)) → (w : Ends t size after) → readOf t size ≡ behindEnd (length (w .before) + 2) after
   from-ends after w =
       let e : 1 + length (w .before) + 1 ≡ length (w .before) + 2 = omega arith in
-      small-read (w .small)
-      ∙ rw (w .lines, past size (w .before) (w .line ∷ after) 1 0 (w .good), last size (1 + length (w .before)) (endAfter 0 (w .before)) (w .line) after (w .right) (w .ends), e)
+      let ended = last size (1 + length (w .before)) (endAfter 0 (w .before)) (w .line) after (w .right) (eqb-true _ 1 (w .ends)) in
+      small-read (w .small) ∙ rw (w .lines, past size (w .before) (w .line ∷ after) 1 0 (w .good), ended, e)
 
   from-no-end : (n : ℕ) → NoEnd t size n → readOf t size ≡ answer 56 n
   unfolding checked
@@ -162,15 +158,17 @@ module _ {t : List ℕ} {size n : ℕ} where
   to-0 f (behind m e w) = absurd (omega (arith, same-number e f))
   to-0 f (whole e w) = (w, sym (same-line e f))
 
+  same-at : (Wrong Also : ℕ → List ℕ → Bool) → ((end : ℕ) (l : List ℕ) → Wrong end l ≡ Also end l) → At t size n Wrong → At t size n Also
+  same-at Wrong Also same w =
+      let e = same (endAfter 0 (w .before)) (w .line) in
+      record { small = w .small; before = w .before; line = w .line; after = w .after; lines = w .lines; number = w .number; good = w .good; wrong = sym e ∙ w .wrong }
+
   -- a number of a line, by what is wrong with the line
   by-line : (k : ℕ) → (k ≡ 0 → ⊥) → k < 56 → (Wrong : ℕ → List ℕ → Bool) → ((end : ℕ) (l : List ℕ) → eqb (faultOf size end l) k ≡ Wrong end l)
       → (readOf t size ≡ answer k n) ↔ At t size n Wrong
-  by-line k h i Wrong same = (
-    λ e. let w = to-at k h i e (outcome t size) in
-        record { small = w .small; before = w .before; line = w .line; after = w .after; lines = w .lines; number = w .number; good = w .good; wrong = sym (same (endAfter 0 (w .before)) (w .line)) ∙ w .wrong },
-    λ w. from-at t size n k h
-        (record { small = w .small; before = w .before; line = w .line; after = w .after; lines = w .lines; number = w .number; good = w .good; wrong = same (endAfter 0 (w .before)) (w .line) ∙ w .wrong }),
-  )
+  by-line k h i Wrong same =
+      let Fault : ℕ → List ℕ → Bool = λ end l. eqb (faultOf size end l) k in
+      (λ e. same-at Fault Wrong same (to-at k h i e (outcome t size)), λ w. from-at t size n k h (same-at Wrong Fault (λ end l. sym (same end l)) w))
 
 pub each-number-exactly : EachNumberExactly
 unfolding faultOf

@@ -11,6 +11,7 @@ use lib.Seq.{sets, sets-eq, take-at, drop-at, drop-append-add, getD-drop}
 use borrow.Author.Tests.{le-ltb, ltb-false}
 use Rattle.basis.specs.Bytes.{Bytes}
 use Rattle.hex_line.specs.Line.{linesOf, isDigit, valueOf, allDigits, said, sumOf, wrongCharacter, faultOf}
+use Rattle.hex_line.proofs.Judged.{never}
 use Rattle.hex.specs.Reading.{answer, checked, readOf, filled}
 use Rattle.hex.specs.Writing.{digitsOf, lineOf, textFrom, textOf, writeOf, bufferOf}
 use Rattle.hex.specs.Promises.{GivenBack, WritingIsGivenBack}
@@ -108,9 +109,6 @@ read-back p b h small e =
     record { answered = a; bytes = rw (a, e) (fills lines 0 p [] h (omega arith) (omega arith) small (λ q. refl)) }
 
 -- ---- over what the writer left in its buffer
-never : {X : Type 0} (n : ℕ) → suc n ≡ 0 → X
-never n h = absurd (omega arith)
-
 given-by : (p o b : List ℕ) (large short : Bool) → ltb 65536 (length p) ≡ large → ltb (length o) (length (textOf p)) ≡ short
     → Bytes p → writeOf p (length o) .refusal ≡ 0 → length b ≡ length p → GivenBack (take (writeOf p (length o) .length) (bufferOf p o)) p b
 given-by p o b true short e f h k q = never 56 (rw e at k)

@@ -2,17 +2,17 @@
 -- Assumes nothing.
 use mathlib.Core.Path.{_≡_, refl, ap}
 use mathlib.Core.Bool.{Bool, true, false}
-use mathlib.Core.Logic.{_⊎_, inl, inr}
+use mathlib.Core.Logic.{inl, inr}
 use mathlib.Core.List.{List, [], _∷_, _++_}
-use Prim.Native.Nat.{ℕ, suc, _+_, _≤_}
+use Prim.Native.Nat.{ℕ, _+_, _≤_}
 use native.Mathlib.Omega.{arith}
 use lib.Dec.{ltb}
 use lib.ListN.{length, length-append}
 use Rattle.hex_line.specs.Line.{linesOf, endOf, isEnd, faultOf}
-use Rattle.hex_line.proofs.Judged.{rises, end-empty}
+use Rattle.hex_line.proofs.Judged.{never, rises, end-empty}
 use Rattle.hex.specs.Reading.{checked, readOf}
 use Rattle.hex.specs.Promises.{Names, NamedAtMostOnce}
-use Rattle.hex.proofs.Checked.{passed}
+use Rattle.hex.proofs.Checked.{Then, passed}
 
 no-line-left : {X : Type 0} (l : List ℕ) (ls ms : List (List ℕ)) → ls ++ (l ∷ ms) ≡ [] → X
 no-line-left l ls ms h =
@@ -24,8 +24,7 @@ module _ (size n end : ℕ) (l : List ℕ) (ls : List (List ℕ)) (m : List ℕ)
   a-data-line : (isEnd l ≡ false) × (checked size (n + 1) (endOf l) (ls ++ (m ∷ after)) .refusal ≡ 0)
   a-data-line = go (passed size n end l (ls ++ (m ∷ after)) h .rest)
     where
-      go : ((isEnd l ≡ true) × (ls ++ (m ∷ after) ≡ [])) ⊎ ((isEnd l ≡ false) × (checked size (n + 1) (endOf l) (ls ++ (m ∷ after)) .refusal ≡ 0))
-          → (isEnd l ≡ false) × (checked size (n + 1) (endOf l) (ls ++ (m ∷ after)) .refusal ≡ 0)
+      go : Then size n l (ls ++ (m ∷ after)) → (isEnd l ≡ false) × (checked size (n + 1) (endOf l) (ls ++ (m ∷ after)) .refusal ≡ 0)
       go (inl (e, k)) = no-line-left m ls after k
       go (inr q) = q
 
@@ -56,9 +55,6 @@ once size (x ∷ before) l between m after n end h a names names′ =
 
 pub by-size : (t : List ℕ) (size : ℕ) (large : Bool) → ltb 65536 size ≡ large → readOf t size .refusal ≡ 0 → checked size 1 0 (linesOf t) .refusal ≡ 0
 by-size t size true e h = never 56 (rw e at h)
-  where
-    never : {X : Type 0} (n : ℕ) → suc n ≡ 0 → X
-    never n h = absurd (omega arith)
 by-size t size false e h = rw e at h
 
 pub named-at-most-once : NamedAtMostOnce

@@ -41,7 +41,8 @@ pub fault-numbers : (size end : ℕ) (l : List ℕ) → Numbers (wrongCharacter 
 fault-numbers size end l = numbers (wrongCharacter l) (wrongLength l) (wrongSum l) (wrongType l) (outside size l) (falls end l)
 
 -- ---- a line without a fault
-never : {X : Type 0} (n : ℕ) → suc n ≡ 0 → X
+-- no number of a refusal is 0
+pub never : {X : Type 0} (n : ℕ) → suc n ≡ 0 → X
 never n h = absurd (omega arith)
 
 all-false : (a b c d e f : Bool) → lowest a b c d e f ≡ 0 → (a ≡ false) × (b ≡ false) × (e ≡ false) × (f ≡ false)
