@@ -10,10 +10,10 @@ use lib.Dec.{eqb}
 use lib.ListN.{length, drop, take, length-drop}
 use lib.Seq.{take-all, length-take-le}
 use borrow.Author.Tests.{ne-eqb, eqb-true, eqb-false}
-use Rattle.hex_line.specs.Line.{linesOf, countOf, typeOf, isEnd, endOf, faultOf}
-use Rattle.hex_line.specs.Way.{endLength, stopOf, lineAt, Fits}
+use Rattle.hex_line.specs.Line.{linesOf, typeOf, isEnd, endOf, faultOf}
+use Rattle.hex_line.specs.Way.{endLength, stopOf, lineAt, byteOf, Fits}
 use Rattle.hex_line.proofs.Found.{Found, found, no-lines}
-use Rattle.hex_line.proofs.RecordBytes.{count-of-part}
+use Rattle.hex_line.proofs.RecordBytes.{count-is, count-of-part}
 use Rattle.hex_line.proofs.Judged.{never, fits}
 use Rattle.hex.specs.Reading.{answer, behindEnd, checked}
 
@@ -84,7 +84,7 @@ pub rest-fits : {size : ℕ} {l : List ℕ} {ls : List (List ℕ)} → AllFit si
 rest-fits (line f r) = r
 
 -- a line that fits ends where its count, n, says
-pub by-count : {size : ℕ} (t : List ℕ) (at n : ℕ) → at < length t → AllFit size (linesOf (drop at t)) → n ≡ countOf (take (length t - at) (drop at t))
+pub by-count : {size : ℕ} (t : List ℕ) (at n : ℕ) → at < length t → AllFit size (linesOf (drop at t)) → n ≡ byteOf (take (length t - at) (drop at t)) 0
     → Found t at (at + n * 2 + 11) (at + n * 2 + 11 + endLength (drop (at + n * 2 + 11) t))
 by-count t at n h fit e =
     let f = found t at (lineAt t at) h refl in
@@ -95,8 +95,10 @@ by-count t at n h fit e =
     let b = f .stops in
     let c = f .fits in
     let m : length (take (stop - at) u) ≡ stop - at = length-take-le (stop - at) u (omega arith) in
-    let long = first-fits (rw (f .lines) at fit) .long in
-    let first : countOf (take (stop - at) u) ≡ countOf u = count-of-part (stop - at) u (omega arith) (omega arith) in
-    let whole : n ≡ countOf u = rw (take-all (length t - at) u (omega arith)) at e in
+    let line = first-fits (rw (f .lines) at fit) in
+    let long = line .long in
+    let count = count-is (take (stop - at) u) (line .digits) in
+    let first : byteOf (take (stop - at) u) 0 ≡ byteOf u 0 = count-of-part (stop - at) u (omega arith) (omega arith) in
+    let whole : n ≡ byteOf u 0 = rw (take-all (length t - at) u (omega arith)) at e in
     let k : stop ≡ at + n * 2 + 11 = omega arith in
     rw (← k) f

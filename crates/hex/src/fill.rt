@@ -1,7 +1,7 @@
 // The second pass: the bytes that the lines name, of a text that was checked.
 use hex_line::address;
+use hex_line::byte;
 use hex_line::count;
-use hex_line::data_byte;
 use hex_line::end_length;
 ghost use mathlib.Core.Path.{_≡_};
 ghost use lib.ListN.{length, replicate};
@@ -18,7 +18,7 @@ fn fill_line(line: &[u8], program: &mut [u8])
     let n = count(line);
     let mut j: u8 = 0;
     while j < n {
-        program[at + j as usize] = data_byte(line, j);
+        program[at + j as usize] = byte(line, j as u16 + 4);
         j += 1;
     }
 }

@@ -3,20 +3,16 @@
 use mathlib.Core.Path.{_≡_, refl}
 use mathlib.Core.Bool.{Bool, true, false, not, _&&_, _||_}
 use mathlib.Core.List.{List, [], _∷_}
-use Prim.Native.Nat.{ℕ, zero, suc, _*_, _+_, _≤_, _<_}
+use Prim.Native.Nat.{ℕ, suc, _*_, _+_, _≤_, _<_}
 use native.Mathlib.Omega.{arith}
 use lib.Dec.{eqb, ltb}
-use lib.ListN.{getD, length, drop}
+use lib.ListN.{length, drop}
 use borrow.Author.Tests.{eqb-true, ltb-false, lt-ltb, not-false}
-use Rattle.basis.specs.Bytes.{Bytes}
 use Rattle.basis.specs.Pick.{pick}
 use Rattle.basis.proofs.Choice.{clash}
 use Rattle.basis.proofs.Both.{both-true}
-use Rattle.hex_line.specs.Line.{valueOf, allDigits, said, recordOf, countOf, addressOf, endOf, isEnd, wrongCharacter, wrongLength, wrongSum, wrongType, outside, falls, faultOf}
-use Rattle.hex_line.specs.Way.{dataByte, Fits}
-use Rattle.hex_line.proofs.Table.{value-lt}
-use Rattle.hex_line.proofs.Characters.{pair-is}
-use Rattle.hex_line.proofs.RecordBytes.{byte-at}
+use Rattle.hex_line.specs.Line.{allDigits, countOf, addressOf, endOf, isEnd, wrongCharacter, wrongLength, wrongSum, wrongType, outside, falls, faultOf}
+use Rattle.hex_line.specs.Way.{Fits}
 
 -- the number by the six tests
 abbrev lowest : Bool → Bool → Bool → Bool → Bool → Bool → ℕ
@@ -87,23 +83,3 @@ module _ (size end : ℕ) (l : List ℕ) (h : faultOf size end l ≡ 0) where
       let (characters, long, inside, up) = right in
       let none : (isEnd l && ltb 0 (countOf l)) ≡ false = or-false (not (eqb (length l) (countOf l * 2 + 11))) (isEnd l && ltb 0 (countOf l)) long .1 in
       ltb-false 0 (countOf l) (rw k at none)
-
--- ---- digits say bytes
-said-byte : (t : List ℕ) (k : ℕ) → getD (said t) k 0 < 256
-unfolding said
-said-byte [] k = omega arith
-said-byte (c ∷ []) k = omega arith
-said-byte (c ∷ d ∷ t) zero = let a = value-lt c in let b = value-lt d in omega arith
-said-byte (c ∷ d ∷ t) (suc k) = said-byte t k
-
-pub record-bytes : (l : List ℕ) → Bytes (recordOf l)
-record-bytes l = record { byte-lt = said-byte (drop 1 l) }
-
--- the digits of a data byte say it
-pub data-byte-is : {size : ℕ} (l : List ℕ) → Fits size l → (j : ℕ) → j < countOf l → dataByte l j ≡ getD (recordOf l) (j + 4) 0
-data-byte-is l f j h =
-    let n = f .long in
-    let i : (j + 4) * 2 + 1 ≡ j * 2 + 9 = omega arith in
-    let said : getD (recordOf l) (j + 4) 0 ≡ valueOf (getD l (j * 2 + 9) 0) * 16 + valueOf (getD l (j * 2 + 9 + 1) 0) = rw i at (byte-at l (j + 4) (omega arith)) in
-    let small = record-bytes l .byte-lt (j + 4) in
-    rw (lt-ltb (j * 2 + 9 + 1) (length l) (omega arith), pair-is l (f .digits) (j * 2 + 9) (omega arith) (omega arith), ← said) (omega arith)

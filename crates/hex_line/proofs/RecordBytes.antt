@@ -1,13 +1,20 @@
 -- The bytes of a record by the digits that say them, and their sum as the loop over them goes.
 -- Assumes nothing.
 use mathlib.Core.Path.{_≡_, refl}
+use mathlib.Core.Bool.{true}
 use mathlib.Core.List.{List, [], _∷_}
 use Prim.Native.Nat.{ℕ, zero, suc, _+_, _*_, _%_, _≤_, _<_}
 use native.Mathlib.Omega.{arith}
 use native.Mathlib.Numerals.{add-one}
+use lib.Dec.{ltb}
 use lib.ListN.{length, drop, take, getD, length-drop}
 use lib.Seq.{drop-cons, getD-take, length-take-le}
-use Rattle.hex_line.specs.Line.{valueOf, said, sumOf, recordOf, countOf}
+use borrow.Author.Tests.{lt-ltb, ltb-true, ltb-false}
+use Rattle.basis.proofs.Choice.{test}
+use Rattle.hex_line.specs.Line.{valueOf, allDigits, said, sumOf, recordOf, countOf, addressOf, typeOf}
+use Rattle.hex_line.specs.Way.{byteOf}
+use Rattle.hex_line.proofs.Table.{value-lt}
+use Rattle.hex_line.proofs.Characters.{pair-is}
 
 -- ---- byte k of a record: the digits at 2 k + 1 and 2 k + 2
 said-at : (t : List ℕ) (k : ℕ) → k * 2 + 1 < length t → getD (said t) k 0 ≡ valueOf (getD t (k * 2) 0) * 16 + valueOf (getD t (k * 2 + 1) 0)
@@ -36,11 +43,41 @@ pub byte-none : (l : List ℕ) (k : ℕ) → length l ≤ k * 2 + 1 + 1 → getD
 byte-none [] k h = said-none [] k (omega arith)
 byte-none (c ∷ t) k h = said-none t k (omega arith)
 
+-- ---- the bytes as the code reads them, of a line that is all digits behind its first character
+said-byte : (t : List ℕ) (k : ℕ) → getD (said t) k 0 < 256
+unfolding said
+said-byte [] k = omega arith
+said-byte (c ∷ []) k = omega arith
+said-byte (c ∷ d ∷ t) zero = let a = value-lt c in let b = value-lt d in omega arith
+said-byte (c ∷ d ∷ t) (suc k) = said-byte t k
+
+pub byte-lt : (l : List ℕ) (k : ℕ) → getD (recordOf l) k 0 < 256
+byte-lt l k = said-byte (drop 1 l) k
+
+pub byte-is : (l : List ℕ) → allDigits (drop 1 l) ≡ true → (k : ℕ) → byteOf l k ≡ getD (recordOf l) k 0
+unfolding byteOf
+byte-is l h k =
+    let small = byte-lt l k in
+    test (ltb (k * 2 + 1 + 1) (length l))
+    (λ e. let i = ltb-true (k * 2 + 1 + 1) (length l) e in rw (e, pair-is l h (k * 2 + 1) (omega arith) i, ← byte-at l k i) (omega arith))
+    (λ e. let i = ltb-false (k * 2 + 1 + 1) (length l) e in rw (e, byte-none l k i))
+
+module _ (l : List ℕ) (h : allDigits (drop 1 l) ≡ true) where
+  pub count-is : byteOf l 0 ≡ countOf l
+  count-is = byte-is l h 0
+
+  pub address-is : byteOf l 1 * 256 + byteOf l 2 ≡ addressOf l
+  address-is = rw (byte-is l h 1, byte-is l h 2)
+
+  pub kind-is : byteOf l 3 ≡ typeOf l
+  kind-is = byte-is l h 3
+
 -- a line's count by its first characters
-pub count-of-part : (n : ℕ) (t : List ℕ) → 3 ≤ n → n ≤ length t → countOf (take n t) ≡ countOf t
+pub count-of-part : (n : ℕ) (t : List ℕ) → 3 ≤ n → n ≤ length t → byteOf (take n t) 0 ≡ byteOf t 0
+unfolding byteOf
 count-of-part n t h k =
     let e : length (take n t) ≡ n = length-take-le n t k in
-    rw (byte-at (take n t) 0 (omega arith), byte-at t 0 (omega arith), getD-take n t 1 0 (omega arith), getD-take n t 2 0 (omega arith))
+    rw (e, lt-ltb (0 * 2 + 1 + 1) n (omega arith), lt-ltb (0 * 2 + 1 + 1) (length t) (omega arith), getD-take n t 1 0 (omega arith), getD-take n t 2 0 (omega arith))
 
 -- ---- the sum
 said-step : (l : List ℕ) (i : ℕ) → i + 1 < length l

@@ -2,11 +2,10 @@
 -- Assumes nothing.
 use mathlib.Core.Path.{_≡_, sym, _∙_}
 use mathlib.Core.Bool.{true, false, not, _||_, and-false}
-use Prim.Native.Nat.{ℕ, _*_, _<_}
+use Prim.Native.Nat.{ℕ, _<_}
 use native.Mathlib.Omega.{arith}
 use lib.Dec.{T, eqb, eqb→eq, ltb, ltb→lt}
 use borrow.Author.Tests.{lt-leb, ltb-true, ltb-false}
-use Rattle.basis.specs.Bit.{one}
 use Rattle.basis.proofs.Choice.{test, clash}
 use Rattle.basis.proofs.Every.{at}
 use Rattle.hex_line.specs.Line.{isDigit, valueOf}
@@ -37,13 +36,3 @@ digit-is c h =
     test (ltb c 103)
     (λ e. eqb→eq (digitOf c) (valueOf c) (rw h at (digit-here c (ltb-true c 103 e))))
     (λ e. clash (sym h ∙ no-digit-past c (ltb-false c 103 e)))
-
-value-here : (c : ℕ) → c < 103 → T (eqb (one (isDigit c) * digitOf c) (valueOf c))
-unfolding isDigit valueOf digitOf
-value-here c h = at (λ c. eqb (one (isDigit c) * digitOf c) (valueOf c)) 103 tt c h
-
-pub value-is : (c : ℕ) → one (isDigit c) * digitOf c ≡ valueOf c
-value-is c =
-    test (ltb c 103)
-    (λ e. eqb→eq (one (isDigit c) * digitOf c) (valueOf c) (value-here c (ltb-true c 103 e)))
-    (λ e. rw (no-digit-past c (ltb-false c 103 e), zero-past c (ltb-false c 103 e)) (omega arith))

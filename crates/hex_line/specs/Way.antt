@@ -1,5 +1,5 @@
--- How the code goes through a text and reads a digit. That it comes to the lines of `linesOf` and to `valueOf` is proved (proofs/Found.antt, proofs/Table.antt).
--- t is a text, c a character, l a line, j the number of a data byte, `at` a place.
+-- How the code goes through a text and reads a digit. That it comes to `linesOf` and `recordOf` is proved (proofs/Found.antt, proofs/RecordBytes.antt).
+-- t is a text, c a character, l a line, k the number of a byte in its record, `at` a place.
 use mathlib.Core.Path.{_≡_}
 use mathlib.Core.Bool.{true, _&&_}
 use mathlib.Core.List.{List, [], _∷_}
@@ -31,9 +31,9 @@ lineAt t at = record { stop = stopOf t at; next = stopOf t at + endLength (drop 
 unfoldable pub digitOf : ℕ → ℕ
 digitOf c = c % 16 + c / 64 * 9
 
--- data byte j by the two digits that say it, in a line that has no fault; 0 where the line is shorter
-abbrev pub dataByte : List ℕ → ℕ → ℕ
-dataByte l j = pick (ltb (j * 2 + 9 + 1) (length l)) ((digitOf (getD l (j * 2 + 9) 0) * 16 + digitOf (getD l (j * 2 + 9 + 1) 0)) % 256) 0
+-- byte k of a record by the two digits that say it, of a line whose characters belong; 0 where the line is shorter
+unfoldable pub byteOf : List ℕ → ℕ → ℕ
+byteOf l k = pick (ltb (k * 2 + 1 + 1) (length l)) ((digitOf (getD l (k * 2 + 1) 0) * 16 + digitOf (getD l (k * 2 + 1 + 1) 0)) % 256) 0
 
 -- a line whose bytes can be filled into a buffer of `size` bytes
 pub record Fits (size : ℕ) (l : List ℕ) : Type 0 where

@@ -1,6 +1,6 @@
 // Digits, in either case.
 ghost use mathlib.Core.Path.{_≡_};
-ghost use Rattle.hex_line.specs.Line.{isDigit, valueOf};
+ghost use Rattle.hex_line.specs.Line.{isDigit};
 ghost use Rattle.hex_line.specs.Way.{digitOf};
 
 pub fn is_digit(c: u8) -> bool
@@ -14,11 +14,4 @@ pub fn digit(c: u8) -> u8
     ensures { λ r. ⌜ r ≡ digitOf c ⌝ }
 {
     c % 16 + c / 64 * 9
-}
-
-// What any character is worth, 0 where it is no digit; without a branch, which would be guessed wrong.
-pub fn value(c: u8) -> u8
-    ensures { λ r. ⌜ r ≡ valueOf c ⌝ }
-{
-    is_digit(c) as u8 * digit(c)
 }

@@ -1,4 +1,4 @@
-// A line judged: document 02's refusals 50 to 55.
+// A line judged: document 02's refusals 50 to 55, the later ones of a line whose characters belong.
 use crate::digits::is_digit;
 use crate::records::address;
 use crate::records::count;
@@ -26,13 +26,13 @@ fn wrong_character(line: &[u8]) -> bool
 }
 
 fn wrong_length(line: &[u8]) -> bool
+    requires { ⌜ allDigits (drop 1 (now line)) ≡ true ⌝ }
     ensures { λ r. ⌜ r ≡ wrongLength (now (line .entry)) ⌝ }
 {
     let n = count(line);
     (line.len() != n as usize * 2 + 11) | (kind(line) == 1) & (0 < n)
 }
 
-// Of a line whose characters belong.
 fn wrong_sum(line: &[u8]) -> bool
     requires { ⌜ allDigits (drop 1 (now line)) ≡ true ⌝ }
     ensures { λ r. ⌜ r ≡ wrongSum (now (line .entry)) ⌝ }
@@ -50,12 +50,14 @@ fn wrong_sum(line: &[u8]) -> bool
 }
 
 fn wrong_type(line: &[u8]) -> bool
+    requires { ⌜ allDigits (drop 1 (now line)) ≡ true ⌝ }
     ensures { λ r. ⌜ r ≡ wrongType (now (line .entry)) ⌝ }
 {
     1 < kind(line)
 }
 
 fn outside(line: &[u8], size: usize) -> bool
+    requires { ⌜ allDigits (drop 1 (now line)) ≡ true ⌝ }
     ensures { λ r. ⌜ r ≡ outside size (now (line .entry)) ⌝ }
 {
     let at = address(line) as usize;
@@ -64,6 +66,7 @@ fn outside(line: &[u8], size: usize) -> bool
 }
 
 fn falls(line: &[u8], end: usize) -> bool
+    requires { ⌜ allDigits (drop 1 (now line)) ≡ true ⌝ }
     ensures { λ r. ⌜ r ≡ falls end (now (line .entry)) ⌝ }
 {
     let at = address(line) as usize;

@@ -8,8 +8,8 @@ pub use faults::fault;
 pub use lines::end_length;
 pub use lines::line_at;
 pub use records::address;
+pub use records::byte;
 pub use records::count;
-pub use records::data_byte;
 pub use records::kind;
 
 // Where a line's characters end, and where the next line starts.

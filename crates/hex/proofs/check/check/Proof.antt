@@ -7,6 +7,8 @@ use lib.ListN.{length, take, drop}
 use borrow.Author.Needs.{needs}
 use Rattle.hex_line.specs.Line.{linesOf}
 use Rattle.hex_line.proofs.Found.{found}
+use Rattle.hex_line.proofs.RecordBytes.{count-is, address-is, kind-is}
+use Rattle.hex_line.proofs.Judged.{fits}
 use Rattle.hex.specs.Reading.{checked}
 use Rattle.hex.proofs.Checked.{faulty, last, onwards, missing, more, no-more}
 use Rattle.hex.proofs.check.check.Statement.{statement}
@@ -84,7 +86,8 @@ returns-2 c =
     let size = l .before .before .args .size in
     let k = c .before .before .before in
     let right = sym (k .before .before .fault .ensures) ∙ k .before .if1 .left in
-    let ends = sym (k .kind .ensures) ∙ c .before .before .if2 .taken in
+    let kind = k .kind .ensures ∙ kind-is bs (fits size (l .loop .end) bs right .digits) in
+    let ends = sym kind ∙ c .before .before .if2 .taken in
     rw (
       l .loop .inv .1 .1,
       f .lines,
@@ -103,7 +106,8 @@ returns-3 c =
     let size = l .before .before .args .size in
     let k = c .before .before .before in
     let right = sym (k .before .before .fault .ensures) ∙ k .before .if1 .left in
-    let ends = sym (k .kind .ensures) ∙ c .before .before .if2 .taken in
+    let kind = k .kind .ensures ∙ kind-is bs (fits size (l .loop .end) bs right .digits) in
+    let ends = sym kind ∙ c .before .before .if2 .taken in
     rw (
       l .loop .inv .1 .1,
       f .lines,
@@ -147,8 +151,10 @@ loop-again c =
     let g = f .fits in
     let k = c .before .before .before in
     let right = sym (k .before .before .fault .ensures) ∙ k .before .if1 .left in
-    let rest = onwards size (l .loop .number) (l .loop .end) bs ls right (λ z. c .before .before .if2 .left (k .kind .ensures ∙ z)) in
-    (omega arith, (omega arith, rw (l .loop .inv .1 .1, f .lines, rest, c .before .address .ensures, c .count .ensures)))
+    let digits = fits size (l .loop .end) bs right .digits in
+    let rest = onwards size (l .loop .number) (l .loop .end) bs ls right (λ z. c .before .before .if2 .left (k .kind .ensures ∙ kind-is bs digits ∙ z)) in
+    let address = c .before .address .ensures ∙ address-is bs digits in
+    (omega arith, (omega arith, rw (l .loop .inv .1 .1, f .lines, rest, address, c .count .ensures, count-is bs digits)))
 
 returns-4 : tie.Need-returns-4 Inv-loop μ-loop
 returns-4 c =

@@ -1,13 +1,13 @@
 -- `fill_line` meets its contract: the first `j` bytes of the line are in their places.
 -- Assumes nothing.
 use mathlib.Core.Path.{_≡_, refl, _∙_}
-use Prim.Native.Nat.{_-_, _≤_}
+use Prim.Native.Nat.{_+_, _-_, _≤_}
 use native.Mathlib.Omega.{arith}
 use lib.ListN.{length, take}
 use lib.Seq.{sets}
 use borrow.Author.Needs.{needs}
 use Rattle.hex_line.specs.Line.{countOf, addressOf, dataOf}
-use Rattle.hex_line.proofs.Judged.{data-byte-is}
+use Rattle.hex_line.proofs.RecordBytes.{byte-is, count-is, address-is}
 use Rattle.hex.proofs.Filled.{fill-step, fill-done}
 use Rattle.hex.proofs.fill.fill_line.Statement.{statement}
 use Rattle.hex.proofs.fill.fill_line.Tie as tie
@@ -30,8 +30,14 @@ count-requires c κs = search needs
 loop-holds : tie.Need-loop-holds Inv-loop μ-loop
 loop-holds c = (search needs, (refl, refl))
 
-data-byte-requires : tie.Need-data-byte-requires Inv-loop μ-loop
-data-byte-requires c κs = search needs
+cast-byte : tie.Need-cast-byte Inv-loop μ-loop
+cast-byte c = search needs
+
+add-byte : tie.Need-add-byte Inv-loop μ-loop
+add-byte c = search needs
+
+byte-requires : tie.Need-byte-requires Inv-loop μ-loop
+byte-requires c κs = search needs
 
 cast-program : tie.Need-cast-program Inv-loop μ-loop
 cast-program c = search needs
@@ -44,8 +50,8 @@ slice-write-program c =
     let l = c .before .before in
     let s = l .before .before .before .before .before in
     let t = s .args .line .now in
-    let n : l .before .count .result ≡ countOf t = l .before .count .ensures in
-    let a : l .before .before .address .result ≡ addressOf t = l .before .before .address .ensures in
+    let n : l .before .count .result ≡ countOf t = l .before .count .ensures ∙ count-is t (s .pre .digits) in
+    let a : l .before .before .address .result ≡ addressOf t = l .before .before .address .ensures ∙ address-is t (s .pre .digits) in
     let i = s .pre .inside (omega arith) in
     omega arith
 
@@ -60,10 +66,10 @@ loop-again c =
     let l = c .before .before in
     let s = l .before .before .before .before .before in
     let t = s .args .line .now in
-    let n : l .before .count .result ≡ countOf t = l .before .count .ensures in
-    let said = c .data-byte .ensures ∙ data-byte-is t (s .pre) (l .loop .j) (omega arith) in
-    let step = fill-step t (s .pre) (s .args .program .now) (l .loop .j) (c .data-byte .result) (omega arith) said in
-    (search needs, (search needs, rw (l .loop .inv .1 .1, l .before .before .address .ensures) step))
+    let n : l .before .count .result ≡ countOf t = l .before .count .ensures ∙ count-is t (s .pre .digits) in
+    let said = c .byte .ensures ∙ byte-is t (s .pre .digits) (l .loop .j + 4) in
+    let step = fill-step t (s .pre) (s .args .program .now) (l .loop .j) (c .byte .result) (omega arith) said in
+    (search needs, (search needs, rw (l .loop .inv .1 .1, l .before .before .address .ensures, address-is t (s .pre .digits)) step))
 
 same-length : tie.Need-same-length Inv-loop μ-loop
 same-length c = search needs
@@ -73,8 +79,8 @@ returns c =
     let l = c .before in
     let s = l .before .before .before .before .before in
     let t = s .args .line .now in
-    let n : l .before .count .result ≡ countOf t = l .before .count .ensures in
-    rw (l .loop .inv .1 .1, l .before .before .address .ensures) (fill-done t (s .pre) (s .args .program .now) (l .loop .j) (omega arith))
+    let n : l .before .count .result ≡ countOf t = l .before .count .ensures ∙ count-is t (s .pre .digits) in
+    rw (l .loop .inv .1 .1, l .before .before .address .ensures, address-is t (s .pre .digits)) (fill-done t (s .pre) (s .args .program .now) (l .loop .j) (omega arith))
 
 pub fill-line-spec : {M : Type 1} → statement M
 fill-line-spec =
@@ -86,7 +92,9 @@ fill-line-spec =
     cast-at
     count-requires
     loop-holds
-    data-byte-requires
+    cast-byte
+    add-byte
+    byte-requires
     cast-program
     add-program
     slice-write-program

@@ -17,7 +17,9 @@ returns c =
     rw (← character .wrong-character .ensures, c .if1 .taken)
 
 wrong-length-requires : tie.Need-wrong-length-requires
-wrong-length-requires c κs = search needs
+wrong-length-requires c κs =
+    let character = c .before in
+    colon-digits (character .before .before .args .line .now) (sym (character .wrong-character .ensures) ∙ c .if1 .left)
 
 returns-2 : tie.Need-returns-2
 unfolding faultOf
@@ -48,7 +50,11 @@ returns-3 c =
     )
 
 wrong-type-requires : tie.Need-wrong-type-requires
-wrong-type-requires c κs = search needs
+wrong-type-requires c κs =
+    let sum = c .before in
+    let length = sum .before .before in
+    let character = length .before .before in
+    colon-digits (character .before .before .args .line .now) (sym (character .wrong-character .ensures) ∙ length .before .if1 .left)
 
 returns-4 : tie.Need-returns-4
 unfolding faultOf
@@ -69,7 +75,12 @@ returns-4 c =
     )
 
 outside-requires : tie.Need-outside-requires
-outside-requires c κs = search needs
+outside-requires c κs =
+    let kind = c .before in
+    let sum = kind .before .before in
+    let length = sum .before .before in
+    let character = length .before .before in
+    colon-digits (character .before .before .args .line .now) (sym (character .wrong-character .ensures) ∙ length .before .if1 .left)
 
 returns-5 : tie.Need-returns-5
 unfolding faultOf
@@ -93,7 +104,13 @@ returns-5 c =
     )
 
 falls-requires : tie.Need-falls-requires
-falls-requires c κs = search needs
+falls-requires c κs =
+    let outside = c .before in
+    let kind = outside .before .before in
+    let sum = kind .before .before in
+    let length = sum .before .before in
+    let character = length .before .before in
+    colon-digits (character .before .before .args .line .now) (sym (character .wrong-character .ensures) ∙ length .before .if1 .left)
 
 returns-6 : tie.Need-returns-6
 unfolding faultOf

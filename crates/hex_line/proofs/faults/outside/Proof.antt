@@ -1,6 +1,7 @@
 -- `outside` meets its contract.
 -- Assumes nothing.
 use borrow.Author.Needs.{needs}
+use Rattle.hex_line.proofs.RecordBytes.{count-is, address-is}
 use Rattle.hex_line.proofs.faults.outside.Statement.{statement}
 use Rattle.hex_line.proofs.faults.outside.Tie as tie
 
@@ -20,7 +21,10 @@ add-result : tie.Need-add-result
 add-result c = search needs
 
 returns : tie.Need-returns
-returns c = rw (c .count .ensures, c .before .address .ensures)
+returns c =
+    let s = c .before .before .before in
+    let t = s .args .line .now in
+    rw (c .count .ensures, c .before .address .ensures, count-is t (s .pre), address-is t (s .pre))
 
 pub outside-spec : {M : Type 1} → statement M
 outside-spec =
