@@ -28,27 +28,24 @@ line-at-requires c κs = search needs
 
 sub-line : tie.Need-sub-line Inv-loop μ-loop
 sub-line c =
-    let a = c in
-    let l = a .before .before in
+    let l = c .before .before in
     let t = l .before .before .args .text .now in
-    let f = found t (l .loop .at) (a .line-at .result) (a .before .loop-test .taken) (a .line-at .ensures) in
+    let f = found t (l .loop .at) (c .line-at .result) (c .before .loop-test .taken) (c .line-at .ensures) in
     f .starts
 
 part-line-start : tie.Need-part-line-start Inv-loop μ-loop
 part-line-start c =
-    let a = c in
-    let l = a .before .before in
+    let l = c .before .before in
     let t = l .before .before .args .text .now in
-    let f = found t (l .loop .at) (a .line-at .result) (a .before .loop-test .taken) (a .line-at .ensures) in
+    let f = found t (l .loop .at) (c .line-at .result) (c .before .loop-test .taken) (c .line-at .ensures) in
     f .starts
 
 part-line-end : tie.Need-part-line-end Inv-loop μ-loop
 part-line-end c =
-    let a = c in
-    let l = a .before .before in
+    let l = c .before .before in
     let t = l .before .before .args .text .now in
-    let f = found t (l .loop .at) (a .line-at .result) (a .before .loop-test .taken) (a .line-at .ensures) in
-    let a = f .stops in let b = f .fits in omega arith
+    let f = found t (l .loop .at) (c .line-at .result) (c .before .loop-test .taken) (c .line-at .ensures) in
+    let b = f .stops in let d = f .fits in omega arith
 
 fault-requires : tie.Need-fault-requires Inv-loop μ-loop
 fault-requires c κs = search needs

@@ -51,42 +51,37 @@ mul-stop c = search needs
 
 add-stop : tie.Need-add-stop Inv-loop μ-loop
 add-stop c =
-    let a = c in
-    let l = a .before .before .before in
+    let l = c .before .before .before in
     let t = l .before .before .before .before .before .before .before .args .text .now in
-    let f = by-count t (l .loop .at) (a .count .result) (a .before .before .loop-test .taken) (l .loop .inv .1 .1 .0) (a .count .ensures) in
+    let f = by-count t (l .loop .at) (c .count .result) (c .before .before .loop-test .taken) (l .loop .inv .1 .1 .0) (c .count .ensures) in
     let b = f .stops in let d = f .fits in search needs
 
 add-stop-2 : tie.Need-add-stop-2 Inv-loop μ-loop
 add-stop-2 c =
-    let a = c in
-    let l = a .before .before .before in
+    let l = c .before .before .before in
     let t = l .before .before .before .before .before .before .before .args .text .now in
-    let f = by-count t (l .loop .at) (a .count .result) (a .before .before .loop-test .taken) (l .loop .inv .1 .1 .0) (a .count .ensures) in
+    let f = by-count t (l .loop .at) (c .count .result) (c .before .before .loop-test .taken) (l .loop .inv .1 .1 .0) (c .count .ensures) in
     let b = f .stops in let d = f .fits in search needs
 
 sub-fill-line : tie.Need-sub-fill-line Inv-loop μ-loop
 sub-fill-line c =
-    let a = c in
-    let l = a .before .before .before in
+    let l = c .before .before .before in
     let t = l .before .before .before .before .before .before .before .args .text .now in
-    let f = by-count t (l .loop .at) (a .count .result) (a .before .before .loop-test .taken) (l .loop .inv .1 .1 .0) (a .count .ensures) in
+    let f = by-count t (l .loop .at) (c .count .result) (c .before .before .loop-test .taken) (l .loop .inv .1 .1 .0) (c .count .ensures) in
     f .starts
 
 part-fill-line-start : tie.Need-part-fill-line-start Inv-loop μ-loop
 part-fill-line-start c =
-    let a = c in
-    let l = a .before .before .before in
+    let l = c .before .before .before in
     let t = l .before .before .before .before .before .before .before .args .text .now in
-    let f = by-count t (l .loop .at) (a .count .result) (a .before .before .loop-test .taken) (l .loop .inv .1 .1 .0) (a .count .ensures) in
+    let f = by-count t (l .loop .at) (c .count .result) (c .before .before .loop-test .taken) (l .loop .inv .1 .1 .0) (c .count .ensures) in
     f .starts
 
 part-fill-line-end : tie.Need-part-fill-line-end Inv-loop μ-loop
 part-fill-line-end c =
-    let a = c in
-    let l = a .before .before .before in
+    let l = c .before .before .before in
     let t = l .before .before .before .before .before .before .before .args .text .now in
-    let f = by-count t (l .loop .at) (a .count .result) (a .before .before .loop-test .taken) (l .loop .inv .1 .1 .0) (a .count .ensures) in
+    let f = by-count t (l .loop .at) (c .count .result) (c .before .before .loop-test .taken) (l .loop .inv .1 .1 .0) (c .count .ensures) in
     let b = f .stops in let d = f .fits in omega arith
 
 fill-line-requires : tie.Need-fill-line-requires Inv-loop μ-loop
