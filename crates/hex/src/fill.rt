@@ -33,7 +33,7 @@ fn blank(program: &mut [u8])
     }
 }
 
-pub fn fill(text: &[u8], program: &mut [u8])
+pub(crate) fn fill(text: &[u8], program: &mut [u8])
     requires { ⌜ checked (length (now program)) 1 0 (linesOf (now text)) .refusal ≡ 0 ⌝ }
     ensures { λ _. ⌜ now (program .exit) ≡ filled (linesOf (now (text .entry))) (replicate (length (now (program .entry))) 255) ⌝ }
 {

@@ -55,7 +55,7 @@ fn sum_byte(head: &[u8], bytes: &[u8]) -> u8
 }
 
 // A line, its LF too.
-pub fn put_line(out: &mut [u8], at: usize, kind: u8, address: u16, bytes: &[u8])
+pub(crate) fn put_line(out: &mut [u8], at: usize, kind: u8, address: u16, bytes: &[u8])
     requires { ⌜ (at + length (now bytes) * 2 + 12 ≤ length (now out)) × (length (now bytes) ≤ 255) ⌝ }
     ensures { λ _. ⌜ now (out .exit) ≡ sets (now (out .entry)) at (lineOf kind address (now (bytes .entry)) ++ (10 ∷ [])) ⌝ }
 {

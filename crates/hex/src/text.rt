@@ -6,7 +6,7 @@ ghost use lib.ListN.{length};
 ghost use lib.Seq.{sets};
 ghost use Rattle.hex.specs.Writing.{textOf};
 
-pub fn put_text(program: &[u8], out: &mut [u8])
+pub(crate) fn put_text(program: &[u8], out: &mut [u8])
     requires { ⌜ (length (now program) ≤ 65536) × (length (textOf (now program)) ≤ length (now out)) ⌝ }
     ensures { λ _. ⌜ now (out .exit) ≡ sets (now (out .entry)) 0 (textOf (now (program .entry))) ⌝ }
 {

@@ -6,7 +6,7 @@ ghost use lib.ListN.{getD, length};
 ghost use Rattle.hex_line.specs.Way.{digitOf, byteOf};
 
 // What the two digits at `i` say.
-pub fn pair(line: &[u8], i: usize) -> u16
+pub(crate) fn pair(line: &[u8], i: usize) -> u16
     requires { ⌜ i + 1 < length (now line) ⌝ }
     ensures { λ r. ⌜ r ≡ digitOf (getD (now (line .entry)) i 0) * 16 + digitOf (getD (now (line .entry)) (i + 1) 0) ⌝ }
 {
