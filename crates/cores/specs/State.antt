@@ -18,6 +18,9 @@ unfoldable pub freshOf : ℕ → Core
 freshOf sp = record { regs = replicate 32 0; sreg = 0; pc = 0; sp = sp; busy = 0; inhibit = false; «in_service» = false }
 
 -- ---- one field made so, the others kept
+unfoldable pub withRegs : Core → List ℕ → Core
+withRegs k l = record { regs = l; sreg = k .sreg; pc = k .pc; sp = k .sp; busy = k .busy; inhibit = k .inhibit; «in_service» = k .«in_service» }
+
 -- register d; above 31 nothing changes
 unfoldable pub withReg : Core → ℕ → ℕ → Core
 withReg k d v = record { regs = set (k .regs) d v; sreg = k .sreg; pc = k .pc; sp = k .sp; busy = k .busy; inhibit = k .inhibit; «in_service» = k .«in_service» }

@@ -15,7 +15,7 @@ use Rattle.instruction.specs.Code.{twoWords}
 use Rattle.instruction.specs.declared.Instruction.{Instruction}
 use Rattle.instruction.specs.declared.Instruction.the-variants.{ADC, ADD, ADIW, AND, ANDI, ASR, BCLR, BLD, BRBC, BRBS, BREAK, BSET, BST, CALL, CBI, COM, CP, CPC, CPI, CPSE, DEC, EOR, FMUL, FMULS, FMULSU, ICALL, IJMP, IN, INC, JMP, LDX, LDXinc, LDXdec, LDYinc, LDYdec, LDZinc, LDZdec, LDDY, LDDZ, LDI, LDS, LPM, LPMZ, LPMZinc, LSL, LSR, MOV, MOVW, MUL, MULS, MULSU, NEG, NOP, OR, ORI, OUT, POP, PUSH, RCALL, RET, RETI, RJMP, ROR, SBC, SBCI, SBI, SBIC, SBIS, SBIW, SBRC, SBRS, SLEEP, STX, STXdec, STXinc, STYdec, STYinc, STZdec, STZinc, STDY, STDZ, STS, SUB, SUBI, SWAP, WDR, UNDEF}
 use Rattle.cores.specs.declared.Core.{Core}
-use Rattle.cores.specs.State.{Out, flag, freshOf, withReg, withPc, withSp, withBusy, withInhibit, withService}
+use Rattle.cores.specs.State.{Out, flag, freshOf, withRegs, withReg, withSreg, withPc, withSp, withBusy, withInhibit, withService}
 use Rattle.cores.specs.Flow.{brbxOf, skipped}
 use Rattle.cores.specs.Transfer.{setDataOf, wordIf, ldOf, stOf}
 use Rattle.execute.specs.Needs.{needs, nothing}
@@ -28,7 +28,7 @@ abbrev pub keptOf : Core → Kept
 keptOf k = record { regs = k .regs; sreg = k .sreg }
 
 abbrev pub withKept : Core → Kept → Core
-withKept k r = record { regs = r .regs; sreg = r .sreg; pc = k .pc; sp = k .sp; busy = k .busy; inhibit = k .inhibit; «in_service» = k .«in_service» }
+withKept k r = withSreg (withRegs k (r .regs)) (r .sreg)
 
 -- what an instruction makes of registers and SREG, and the waits after it, where nothing else goes into them
 abbrev pub doesOf : Instruction → Kept → Kept
@@ -81,7 +81,7 @@ Fact return op k p m = op ≡ RETI
 Fact other op k p m = executed decodeOf k op p m .core .«in_service» ≡ k .«in_service»
 
 pub fact : (op : Instruction) (k : Core) (p m : List ℕ) → Fact (kindOf op) op k p m
-unfolding freshOf withReg withPc withSp withBusy withInhibit withService
+unfolding freshOf withRegs withReg withPc withSp withBusy withInhibit withService
 fact (ADC d r) k p m = (refl, refl, refl, refl)
 fact (ADD d r) k p m = (refl, refl, refl, refl)
 fact (ADIW d K) k p m = (refl, refl, refl, refl)

@@ -17,7 +17,7 @@ use Rattle.instruction.specs.declared.Instruction.the-variants.{RETI}
 use Rattle.memory.specs.Memory.{hasOf, hasWordOf}
 use Rattle.cores.specs.declared.Core.{Core}
 use Rattle.cores.specs.Flow.{opAt}
-use Rattle.cores.specs.State.{freshOf, withPc, withSp, withBusy, withInhibit, withService}
+use Rattle.cores.specs.State.{freshOf, withRegs, withPc, withSp, withBusy, withInhibit, withService}
 use Rattle.execute.specs.Needs.{refusal, pushNeeds, needs, fetched, withFetch}
 use Rattle.execute.specs.Execute.{executed}
 use Rattle.tick.specs.Tick.{Tick, gives, decided, due, entry, executedTick, stepped, entersOrSteps, tickOf, numberOf}
@@ -112,7 +112,7 @@ module _ (p : List ℕ) where
     RunsIn t = Runs (avr p) (record { core = k; bytes = m }) (stateOf t) (doesOf op (keptOf k)) (waitsOf op)
 
     runs : RunsIn (gives Ran (ranOn k op) m)
-    unfolding withBusy withPc withInhibit
+    unfolding withRegs withBusy withPc withInhibit
     runs = record { kept′ = refl; sp′ = refl; pc′ = omega arith; busy′ = refl; service′ = refl; bytes′ = refl }
 
     -- whatever is due, a tick that neither enters nor is refused
@@ -165,7 +165,7 @@ module _ (p : List ℕ) where
   -- ---- in service
   serving-step : (op : Instruction) (c : Kind) (i : Core) (m : List ℕ) → i .busy ≡ 0 → Fact c op i p m
       → (eqb (number (executedTick (executed decodeOf i op p m))) 18 && isReturn c) ≡ false → executed decodeOf i op p m .core .«in_service» ≡ i .«in_service»
-  unfolding withBusy
+  unfolding withRegs withBusy
   serving-step op registerOnly i m b f r = rw (ap (λ (i : Core). executed decodeOf i op p m) (sym (idle i b)), f .0)
   serving-step op return i m b f r = clash (subst (λ op. (eqb (number (executedTick (executed decodeOf i op p m))) 18 && true) ≡ false) f r)
   serving-step op other i m b f r = f

@@ -12,8 +12,9 @@ use borrow.Author.Tests.{ltb-false, le-ltb, eq-eqb, eqb-true}
 use Rattle.basis.specs.Bit.{one}
 use Rattle.basis.specs.Bytes.{Bytes}
 use Rattle.cores.specs.declared.Core.{Core}
-use Rattle.cores.specs.State.{Sound}
+use Rattle.cores.specs.State.{Sound, freshOf, withRegs, withPc, withBusy, withInhibit, withService}
 use Rattle.snapshot.specs.Snapshot.{bytesOf, coreOf, wrote, writeOf, readOf, ReadingUndoesWriting, WritingUndoesReading}
+use Rattle.snapshot.proofs.Fields.{busy-read}
 
 -- ---- the last byte
 abbrev last : ℕ → Bool → Bool → ℕ
@@ -57,6 +58,7 @@ joined : (x : ℕ) → x / 256 * 256 + x % 256 ≡ x
 joined x = omega arith
 
 read-back : (k : Core) → Sound k → readOf (bytesOf k) ≡ record { refusal = 0; core = k }
+unfolding freshOf withRegs withPc withBusy withInhibit withService
 read-back k s =
     let h = s .count in
     let t = k .sreg ∷ k .pc / 256 ∷ k .pc % 256 ∷ k .sp / 256 ∷ k .sp % 256 ∷ last (k .busy) (k .inhibit) (k .«in_service») ∷ [] in
@@ -103,6 +105,7 @@ module _ (s : List ℕ) (b : Bytes s) (h : length s ≡ 38) where
   last-back l e = rw (bit-back (l / 16 % 2) (omega arith), bit-back (l / 8 % 2) (omega arith)) (omega arith)
 
   whole-back : getD s 37 0 % 8 ≡ 0 → bytesOf (coreOf s) ≡ s
+  unfolding freshOf withRegs withPc withBusy withInhibit withService
   whole-back e =
       rw (
         high (getD s 33 0) (getD s 34 0) (b .byte-lt 34),
@@ -137,7 +140,7 @@ read-busy : (s : List ℕ) (t u v : Bool) → eqb (length s) 38 ≡ t → ltb 4 
 read-busy s false u v e f g h = absurd (omega (arith, rw e at h))
 read-busy s true true v e f g h = absurd (omega (arith, rw (e, f) at h))
 read-busy s true false false e f g h = absurd (omega (arith, rw (e, f, g) at h))
-read-busy s true false true e f g h = rw (e, f, g) (ltb-false 4 (getD s 37 0 / 32) f)
+read-busy s true false true e f g h = rw (e, f, g, busy-read s) (ltb-false 4 (getD s 37 0 / 32) f)
 
 pub writing-undoes-reading : WritingUndoesReading
 writing-undoes-reading s out b h l =

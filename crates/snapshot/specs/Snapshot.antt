@@ -8,7 +8,7 @@ use Rattle.basis.specs.Pick.{pick}
 use Rattle.basis.specs.Bit.{one}
 use Rattle.basis.specs.Bytes.{Bytes}
 use Rattle.cores.specs.declared.Core.{Core}
-use Rattle.cores.specs.State.{freshOf, Sound}
+use Rattle.cores.specs.State.{freshOf, withRegs, withSreg, withPc, withBusy, withInhibit, withService, Sound}
 use Rattle.snapshot.specs.declared.SnapshotRead.{SnapshotRead}
 
 -- a core's 38 bytes
@@ -20,15 +20,9 @@ bytesOf k =
 -- the core that 38 bytes say
 abbrev pub coreOf : List ℕ → Core
 coreOf s =
-    record {
-      regs = take 32 s;
-      sreg = getD s 32 0;
-      pc = getD s 33 0 * 256 + getD s 34 0;
-      sp = getD s 35 0 * 256 + getD s 36 0;
-      busy = getD s 37 0 / 32;
-      inhibit = eqb (getD s 37 0 / 16 % 2) 1;
-      «in_service» = eqb (getD s 37 0 / 8 % 2) 1;
-    }
+    let last = getD s 37 0 in
+    let k = withPc (withSreg (withRegs (freshOf (getD s 35 0 * 256 + getD s 36 0)) (take 32 s)) (getD s 32 0)) (getD s 33 0 * 256 + getD s 34 0) in
+    withService (withInhibit (withBusy k (last / 32)) (eqb (last / 16 % 2) 1)) (eqb (last / 8 % 2) 1)
 
 -- ---- writing: a refusal's number, 0 for none, and the buffer
 pub record Written : Type 0 where

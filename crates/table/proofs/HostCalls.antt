@@ -21,6 +21,7 @@ use Rattle.run.specs.Run.{Run, runOf, goesOn}
 use Rattle.run.proofs.Unroll.{step}
 use Rattle.snapshot.specs.declared.SnapshotRead.{SnapshotRead}
 use Rattle.snapshot.specs.Snapshot.{bytesOf, coreOf, writeOf, readOf}
+use Rattle.snapshot.proofs.Fields.{pc-read, busy-read}
 use Rattle.snapshot.proofs.RoundTrips.{bytes-back}
 use Rattle.host.specs.Host.{Told, told, toldTicks, offerOf, avrTickOf, avrRunOf}
 use Rattle.invariants.specs.Ticks.{TickNumber}
@@ -44,6 +45,10 @@ module _ (s : List ℕ) (offer a : ℕ) (l : List (ℕ × Bool)) where
       → Fits a ((10, false) ∷ (7, false) ∷ (8, false) ∷ (9, false) ∷ onlyIf true l) → Fits a (checkRows s offer l)
   passed o w b z t = rw (o, w, b, z) t
 
+-- a core that was read waits for 4 ticks at most
+not-busy : (s : List ℕ) → ltb 4 (getD s 37 0 / 32) ≡ false → coreOf s .busy ≤ 4
+not-busy s b = rw (busy-read s) (ltb-false 4 (getD s 37 0 / 32) b)
+
 -- a call that passes every check
 module _ (s p m : List ℕ) (offer : ℕ) where
   abbrev core : Core
@@ -64,14 +69,14 @@ module _ (s p m : List ℕ) (offer : ℕ) where
         ne-eqb number n (λ e. elim (ticks-answer-tick-numbers core p m (offerOf offer)) [ inl t ↦ omega arith | inr t ↦ omega arith ])
 
     pc-lt : core .pc < 65536
-    pc-lt = omega (arith, h .byte-lt 33, h .byte-lt 34)
+    pc-lt = rw (pc-read s) (omega (arith, h .byte-lt 33, h .byte-lt 34))
 
     -- what was read is written back
     unchanged : of38 s ≡ true → ltb 4 (getD s 37 0 / 32) ≡ false → eqb (getD s 37 0 % 8) 0 ≡ true → writeOf core s .bytes ≡ s
     unchanged w b z =
         let r : readOf s ≡ record { refusal = 0; core = core } = rw (w, b, z) refl in
         let back : bytesOf (readOf s .core) ≡ s = bytes-back s h (ap (λ (x : SnapshotRead). x .refusal) r) in
-        rw (w, b) (sym (ap (λ (x : SnapshotRead). bytesOf (x .core)) r) ∙ back)
+        rw (w, le-ltb 4 (core .busy) (not-busy s b)) (sym (ap (λ (x : SnapshotRead). bytesOf (x .core)) r) ∙ back)
 
     fits-tick-call : Fits (avrTickOf s p m offer .number) (checkRows s offer (rows core p m (offerOf offer)))
     unfolding avrTickOf
@@ -191,7 +196,7 @@ tick-calls-write-the-next-core s p m offer =
     λ o. by-checks s (λ w. rw (o, w) (λ l. absurd (omega arith))) (λ w b. rw (o, w, b) (λ l. absurd (omega arith))) (λ w b z. rw (o, w, b, z) (λ l. absurd (omega arith)))
     λ w b z l.
     let t = tickOf (coreOf s) p m (offerOf offer) in
-    let low = ticks-leave-busy-at-most-4 (coreOf s) p m (offerOf offer) (inr (ltb-false 4 (getD s 37 0 / 32) b)) in
+    let low = ticks-leave-busy-at-most-4 (coreOf s) p m (offerOf offer) (inr (not-busy s b)) in
     called s p m offer o w b z ∙ ap (λ (x : List ℕ). told (numberOf (t .answer)) x (t .bytes)) (written (t .core) s w low)
 
 runs-leave-busy : (budget : ℕ) (k : Core) (p m : List ℕ) (o : Offer) → k .busy ≤ 4 → runOf budget k p m o .core .busy ≤ 4
@@ -215,5 +220,5 @@ run-calls-write-the-last-core s p m offer budget ticks =
     λ w b z f.
     let x = runOf budget (coreOf s) p m (offerOf offer) in
     let r : readOf s ≡ record { refusal = 0; core = coreOf s } = rw (w, b, z) refl in
-    let low = runs-leave-busy budget (coreOf s) p m (offerOf offer) (ltb-false 4 (getD s 37 0 / 32) b) in
+    let low = runs-leave-busy budget (coreOf s) p m (offerOf offer) (not-busy s b) in
     rw (o, r) (ap (λ (y : List ℕ). toldTicks (x .answer) y (x .bytes) (x .count)) (written (x .core) s w low))
