@@ -7,7 +7,15 @@ pub const SNAPSHOT_BYTES: usize = 38;
 pub const NO_OFFER: u32 = 65_536;
 
 extern "C" {
-    fn avr_tick(snapshot: *mut u8, snapshot_len: usize, program: *const u8, program_len: usize, data: *mut u8, data_len: usize, offer: u32) -> u32;
+    fn avr_tick(
+        snapshot: *mut u8,
+        snapshot_len: usize,
+        program: *const u8,
+        program_len: usize,
+        data: *mut u8,
+        data_len: usize,
+        offer: u32,
+    ) -> u32;
     fn avr_run(
         snapshot: *mut u8,
         snapshot_len: usize,
