@@ -31,7 +31,7 @@ const BEFORE_THE_TICK: [(u8, u32, &[u8], u8); 11] = [
     (0xE0, 65_535, &[7], 8),
     (0xFF, NO_OFFER, &[7], 8),
     (0x02, 0, &[7], 9),
-    (0x84, NO_OFFER, &[7], 9),
+    (0x83, NO_OFFER, &[7], 9),
     (0x1F, 65_535, &[7], 9),
 ];
 
@@ -161,7 +161,7 @@ mod tests {
     use super::*;
     use crate::wire::{read_answer, read_case};
 
-    /// Holds the files against the original, without the port.
+    /// Holds the files against the original, without the port. A case that comes to a tick has nothing in its snapshot but the state, so source for its rule.
     #[test]
     fn the_files_hold_the_originals_answers() {
         let read = |name| fs::read(root().join("crates/answers").join(name)).unwrap();
@@ -171,6 +171,7 @@ mod tests {
         while let Some((head, case)) = read_case(&mut cases) {
             let answer = read_answer(&mut answers, case.data.len()).unwrap();
             let refused_before = (8..=10).contains(&answer.number) && answer.snapshot == head && answer.data == case.data;
+            assert!(refused_before || head == snapshot(&case.state), "case {count}");
             assert!(refused_before || expected(&case, &tick(&case), answer.number) == Some(answer), "case {count}");
             count += 1;
         }

@@ -2,7 +2,7 @@
 
 use original::{Case, Outcome};
 
-use crate::wire::{snapshot, Answer};
+use crate::wire::{snapshot, Answer, CHIP};
 
 pub fn case(case: &Case) -> String {
     let offer = case.offer.map_or("none".into(), |vector| vector.to_string());
@@ -35,8 +35,9 @@ fn answered(number: u8, snapshot: &[u8; 38], data: &[u8]) -> String {
 fn core(snapshot: &[u8; 38]) -> String {
     let word = |at: usize| u16::from_be_bytes([snapshot[at], snapshot[at + 1]]);
     let last = snapshot[37];
+    let rule = if last & CHIP == 0 { "source" } else { "chip" };
     format!(
-        "registers{} SREG {:02X} PC {:04X} SP {:04X} busy {} inhibit {} in-service {}",
+        "registers{} SREG {:02X} PC {:04X} SP {:04X} busy {} inhibit {} in-service {} rule {rule}",
         set(&snapshot[..32]),
         snapshot[32],
         word(33),

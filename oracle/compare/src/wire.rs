@@ -6,6 +6,9 @@ use original::{Case, Outcome, State};
 
 pub const NO_OFFER: u32 = 65_536;
 
+/// The bit of a snapshot's last byte that says the rule. The original has none, and is what source means: cases are written with the bit clear, and it stays so.
+pub const CHIP: u8 = 0x04;
+
 /// What `answers` gives for a case. Anything but an answer leaves snapshot and data as they were.
 #[derive(Clone, PartialEq, Eq, Debug)]
 pub struct Answer {
@@ -14,6 +17,7 @@ pub struct Answer {
     pub data: Vec<u8>,
 }
 
+/// A core's bytes under source.
 pub fn snapshot(state: &State) -> [u8; 38] {
     let mut bytes = [0; 38];
     bytes[..32].copy_from_slice(&state.regs);
@@ -68,7 +72,7 @@ pub fn expected(case: &Case, outcome: &Outcome, port: u8) -> Option<Answer> {
     }
 }
 
-/// The next whole case and its snapshot as written; nothing where the input ends or a length is too large.
+/// The next whole case and its snapshot as written, of which the case has all but the rule; nothing where the input ends or a length is too large.
 #[cfg(test)]
 pub fn read_case(from: &mut &[u8]) -> Option<([u8; 38], Case)> {
     let mut take = |len: usize| {
