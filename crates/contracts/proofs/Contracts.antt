@@ -1,6 +1,8 @@
 -- The contracts are met, each by the proof of its function.
 -- Assumes nothing.
 use Rattle.instruction.proofs.Instruction.decode.Met as decode
+use Rattle.cores.proofs.Core.fresh.Met as fresh
+use Rattle.cores.proofs.Core.set_chip.Met as set-chip
 use Rattle.tick.proofs.tick.Met as tick
 use Rattle.tick.proofs.tick_in_place.Met as tick-in-place
 use Rattle.run.proofs.run.Met as run
@@ -22,6 +24,8 @@ pub contracts : Contracts
 contracts =
     record {
       decode = decode.met;
+      fresh = fresh.met;
+      set-chip = set-chip.met;
       tick = tick.met;
       tick-in-place = tick-in-place.met;
       run = run.met;

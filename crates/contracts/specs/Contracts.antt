@@ -1,6 +1,8 @@
 -- THE CONTRACTS that README claims: the function meets the `ensures` that stands above its body, on the language's machine. `statement` is the kit's own word for that;
 -- the comment above a line names the file where the contract stands.
 use Rattle.instruction.proofs.Instruction.decode.Statement as decode
+use Rattle.cores.proofs.Core.fresh.Statement as fresh
+use Rattle.cores.proofs.Core.set_chip.Statement as set-chip
 use Rattle.tick.proofs.tick.Statement as tick
 use Rattle.tick.proofs.tick_in_place.Statement as tick-in-place
 use Rattle.run.proofs.run.Statement as run
@@ -20,6 +22,9 @@ use Rattle.by_types.proofs.core.Statement as core
 pub record Contracts : Type 2 where
   -- crates/instruction/src/decode.rt
   pub decode : {M : Type 1} → decode.statement M
+  -- crates/cores/src/lib.rt
+  pub fresh : {M : Type 1} → fresh.statement M
+  pub set-chip : {M : Type 1} → set-chip.statement M
   -- crates/tick/src/lib.rt
   pub tick : {M : Type 1} → tick.statement M
   pub tick-in-place : {M : Type 1} → tick-in-place.statement M

@@ -1,4 +1,5 @@
 -- 01, 'The core and its surroundings': "A core is 32 registers, SREG, PC (in words), SP, a busy count, the inhibit flag and the in-service flag."
+-- 02, W2: "Each core gets a rule choice, source or chip": chip is true under chip and false under source.
 -- A core's record is written out in this file alone.
 use mathlib.Core.Path.{_≡_}
 use mathlib.Core.Bool.{Bool, false, not, Bool·beq}
@@ -13,35 +14,39 @@ use Rattle.cores.specs.declared.Core.{Core}
 use Rattle.cores.specs.declared.RegisterRead.{RegisterRead}
 use Rattle.cores.specs.declared.RegisterSet.{RegisterSet}
 
--- "A fresh core has registers, SREG, PC, busy and both flags zero, and the SP given."
+-- "A fresh core has registers, SREG, PC, busy and both flags zero, and the SP given." 02, W2: "fresh ones have source"
 unfoldable pub freshOf : ℕ → Core
-freshOf sp = record { regs = replicate 32 0; sreg = 0; pc = 0; sp = sp; busy = 0; inhibit = false; «in_service» = false }
+freshOf sp = record { regs = replicate 32 0; sreg = 0; pc = 0; sp = sp; busy = 0; inhibit = false; «in_service» = false; chip = false }
 
 -- ---- one field made so, the others kept
 unfoldable pub withRegs : Core → List ℕ → Core
-withRegs k l = record { regs = l; sreg = k .sreg; pc = k .pc; sp = k .sp; busy = k .busy; inhibit = k .inhibit; «in_service» = k .«in_service» }
+withRegs k l = record { regs = l; sreg = k .sreg; pc = k .pc; sp = k .sp; busy = k .busy; inhibit = k .inhibit; «in_service» = k .«in_service»; chip = k .chip }
 
 -- register d; above 31 nothing changes
 unfoldable pub withReg : Core → ℕ → ℕ → Core
-withReg k d v = record { regs = set (k .regs) d v; sreg = k .sreg; pc = k .pc; sp = k .sp; busy = k .busy; inhibit = k .inhibit; «in_service» = k .«in_service» }
+withReg k d v = record { regs = set (k .regs) d v; sreg = k .sreg; pc = k .pc; sp = k .sp; busy = k .busy; inhibit = k .inhibit; «in_service» = k .«in_service»; chip = k .chip }
 
 abbrev pub withSreg : Core → ℕ → Core
-withSreg k v = record { regs = k .regs; sreg = v; pc = k .pc; sp = k .sp; busy = k .busy; inhibit = k .inhibit; «in_service» = k .«in_service» }
+withSreg k v = record { regs = k .regs; sreg = v; pc = k .pc; sp = k .sp; busy = k .busy; inhibit = k .inhibit; «in_service» = k .«in_service»; chip = k .chip }
 
 unfoldable pub withPc : Core → ℕ → Core
-withPc k v = record { regs = k .regs; sreg = k .sreg; pc = v; sp = k .sp; busy = k .busy; inhibit = k .inhibit; «in_service» = k .«in_service» }
+withPc k v = record { regs = k .regs; sreg = k .sreg; pc = v; sp = k .sp; busy = k .busy; inhibit = k .inhibit; «in_service» = k .«in_service»; chip = k .chip }
 
 unfoldable pub withSp : Core → ℕ → Core
-withSp k v = record { regs = k .regs; sreg = k .sreg; pc = k .pc; sp = v; busy = k .busy; inhibit = k .inhibit; «in_service» = k .«in_service» }
+withSp k v = record { regs = k .regs; sreg = k .sreg; pc = k .pc; sp = v; busy = k .busy; inhibit = k .inhibit; «in_service» = k .«in_service»; chip = k .chip }
 
 unfoldable pub withBusy : Core → ℕ → Core
-withBusy k v = record { regs = k .regs; sreg = k .sreg; pc = k .pc; sp = k .sp; busy = v; inhibit = k .inhibit; «in_service» = k .«in_service» }
+withBusy k v = record { regs = k .regs; sreg = k .sreg; pc = k .pc; sp = k .sp; busy = v; inhibit = k .inhibit; «in_service» = k .«in_service»; chip = k .chip }
 
 unfoldable pub withInhibit : Core → Bool → Core
-withInhibit k on = record { regs = k .regs; sreg = k .sreg; pc = k .pc; sp = k .sp; busy = k .busy; inhibit = on; «in_service» = k .«in_service» }
+withInhibit k on = record { regs = k .regs; sreg = k .sreg; pc = k .pc; sp = k .sp; busy = k .busy; inhibit = on; «in_service» = k .«in_service»; chip = k .chip }
 
 unfoldable pub withService : Core → Bool → Core
-withService k on = record { regs = k .regs; sreg = k .sreg; pc = k .pc; sp = k .sp; busy = k .busy; inhibit = k .inhibit; «in_service» = on }
+withService k on = record { regs = k .regs; sreg = k .sreg; pc = k .pc; sp = k .sp; busy = k .busy; inhibit = k .inhibit; «in_service» = on; chip = k .chip }
+
+-- the rule
+unfoldable pub withChip : Core → Bool → Core
+withChip k on = record { regs = k .regs; sreg = k .sreg; pc = k .pc; sp = k .sp; busy = k .busy; inhibit = k .inhibit; «in_service» = k .«in_service»; chip = on }
 
 -- ---- registers
 -- register d, and 0 above 31

@@ -8,6 +8,7 @@ ghost use Rattle.cores.specs.Arithmetic.{
   resulted,
   adcOf,
   addOf,
+  oldBitClear,
   adiwOf,
   andOf,
   comOf,
@@ -28,6 +29,13 @@ ghost use Rattle.cores.specs.Arithmetic.{
   sbiwOf,
   subOf,
 };
+
+// The bit of the old word that ADIW's V looks at: 15 in the chip, 7 in the Rust.
+fn old_bit_clear(chip: bool, word: u16) -> bool
+    ensures { λ b. ⌜ b ≡ oldBitClear chip word ⌝ }
+{
+    if chip { word < 32768 } else { word % 256 < 128 }
+}
 
 impl Core {
     // A sum or a difference into Rd, with its six flags.
@@ -73,7 +81,7 @@ impl Core {
         let Rd_hl = self.get_register_word(d);
         let R_hl = alu::plus_word(Rd_hl, K);
         let N = R_hl.value >= 32768;
-        let V = (Rd_hl % 256 < 128) & N;
+        let V = old_bit_clear(self.chip, Rd_hl) & N;
         self.set_register_word(d, R_hl.value)
             .set_cznvs(R_hl.carry, R_hl.value == 0, N, V)
     }

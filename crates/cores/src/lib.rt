@@ -7,6 +7,7 @@ ghost use Rattle.cores.specs.State.{
   withReg,
   withWord,
   withSreg,
+  withChip,
   flag,
   readRegisterOf,
   setRegisterOf,
@@ -33,6 +34,7 @@ pub struct Core {
     pub busy: u8,
     pub inhibit: bool,
     pub in_service: bool,
+    pub chip: bool, // 02's rule choice: chip, or source where false
 }
 
 // The refusal is 0 or 6.
@@ -75,7 +77,16 @@ impl Core {
             busy: 0,
             inhibit: false,
             in_service: false,
+            chip: false,
         }
+    }
+
+    // The rule: chip, or source.
+    pub fn set_chip(mut self, on: bool) -> Core
+        ensures { λ k. ⌜ k ≡ withChip self on ⌝ }
+    {
+        self.chip = on;
+        self
     }
 
     pub fn read_register(self, register: u8) -> RegisterRead

@@ -1,5 +1,5 @@
 -- The laws of specs/. `Bounds`, `Fits`, `Handlers`: of numbers, a core's setters and the shapes of handlers. `Registers`, `Waits`, `Ranges`: of
--- every instruction. `Ticks`: of every tick.
+-- every instruction. `Ticks`: of every tick. `Rule`: of the rule, source or chip.
 pub mod Bounds
 pub mod Fits
 pub mod Handlers
@@ -7,3 +7,4 @@ pub mod Registers
 pub mod Waits
 pub mod Ranges
 pub mod Ticks
+pub mod Rule

@@ -119,9 +119,9 @@ pub record InRange (k : Core) (m before : List ℕ) : Type 0 where
   pub bytes : Bytes m
   pub same-length : length m ≡ length before
 
--- all that an instruction leaves but registers, SREG and busy: the answer, PC, SP, inhibit, in-service, data
-abbrev pub restOf : Executed → Done × ℕ × ℕ × Bool × Bool × List ℕ
-restOf e = (e .done, e .core .pc, e .core .sp, e .core .inhibit, e .core .«in_service», e .bytes)
+-- all that an instruction leaves but registers, SREG and busy: the answer, PC, SP, inhibit, in-service, the rule, data
+abbrev pub restOf : Executed → Done × ℕ × ℕ × Bool × Bool × Bool × List ℕ
+restOf e = (e .done, e .core .pc, e .core .sp, e .core .inhibit, e .core .«in_service», e .core .chip, e .bytes)
 
 -- ---- the laws, of every instruction op on core k with program p and data m, whatever decodes the word to be skipped
 -- from a core and bytes by their types to a core and bytes by their types: 32 registers and SREG below 256, PC and SP below 65,536

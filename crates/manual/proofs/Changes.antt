@@ -1,4 +1,4 @@
--- Whatever the switches, an instruction does what it does with every switch on, changed as specs/Differences.antt says.
+-- Whatever the switches, an instruction does what it does with them as a rule sets them, changed as specs/Differences.antt says.
 -- Assumes nothing.
 use mathlib.Core.Path.{_≡_, refl, ap}
 use mathlib.Core.Bool.{Bool, true, false, not, _||_}
@@ -16,13 +16,13 @@ use Rattle.cores.specs.Transfer.{dataOf}
 use Rattle.tick.specs.declared.Answer.{Answer}
 use Rattle.tick.specs.declared.Answer.the-variants.{Ran, Watchdog, Break}
 use Rattle.manual.specs.Notation.{_!_, _•_, _⊕_, bar, zero16, kept, is, row, bitTo, STACK←, next, goes}
-use Rattle.manual.specs.Switches.{adiwV, loads, stores, afterSei, outside, target, pointers, Switches, theRust, Says, undefined, says, ran, ranOut, definedIf}
+use Rattle.manual.specs.Switches.{adiwV, loads, stores, afterSei, outside, target, pointers, Switches, base, Says, undefined, says, ran, ranOut, definedIf}
 use Rattle.manual.specs.Pointers.{X, Y, Z, isIn, load, loadInc, loadDec, store, storeInc, storeDec}
 use Rattle.manual.specs.AdcToCpse.{adiw, break, bset, call}
 use Rattle.manual.specs.DecToLsr.{jmp}
 use Rattle.manual.specs.SbcToWdr.{sleep, wdr}
 use Rattle.manual.specs.Instructions.{instruction}
-use Rattle.manual.specs.Differences.{overflowBy, waits, inhibits, lands, changed}
+use Rattle.manual.specs.Differences.{overflowBy, waits, inhibits, lands, asSet, changed}
 use Rattle.manual.proofs.Flow.{stored-busy}
 
 -- ---- ADIW: V and S made again over a row that has them
@@ -34,34 +34,41 @@ row-again =
     five-agree 256 (λ v g n z c s. row s kept kept kept (is (n ⊕ (bar g • n))) (is (bar g • n)) (is n) (is z) (is c))
     (λ v g n z c s. let x = row s kept kept kept (is (n ⊕ v)) (is v) (is n) (is z) (is c) in row x kept kept kept (is (x ! 2 ⊕ (bar g • x ! 2))) (is (bar g • x ! 2)) kept kept kept) tt
 
--- the page of ADIW, with its switch as a Boolean
+-- the page of ADIW, with the bit that V looks at
 abbrev adiwBy : Bool → Core → ℕ → ℕ → Core
-adiwBy low k d K =
-    let Rdh7 = reg k (d + 1) ! 7 in
+adiwBy old k d K =
     let R = (word k d + K) % 65536 in
-    let «V» = bar (pick low (reg k d ! 7) Rdh7) • R ! 15 in
-    withSreg (withWord (next k 1 2) d R) (row (k .sreg) kept kept kept (is (R ! 15 ⊕ «V»)) (is «V») (is (R ! 15)) (is (zero16 R)) (is (bar (R ! 15) • Rdh7)))
+    let «V» = bar old • R ! 15 in
+    withSreg (withWord (next k 1 2) d R) (row (k .sreg) kept kept kept (is (R ! 15 ⊕ «V»)) (is «V») (is (R ! 15)) (is (zero16 R)) (is (bar (R ! 15) • reg k (d + 1) ! 7)))
 
-adiw-by : (on : Bool) (k : Core) (d K : ℕ) (m : List ℕ) → k .sreg < 256
-    → ran (adiwBy on k d K) m ≡ pick on (ran (adiwBy true k d K) m) (overflowBy (reg k (d + 1)) (ran (adiwBy true k d K) m))
-adiw-by true k d K m h = refl
-adiw-by false k d K m h =
-    let R = (word k d + K) % 65536 in
-    ap (λ (x : ℕ). ran (withSreg (withWord (next k 1 2) d R) x) m)
-    (row-again (bar (reg k d ! 7) • R ! 15) (reg k (d + 1) ! 7) (R ! 15) (zero16 R) (bar (R ! 15) • reg k (d + 1) ! 7) (k .sreg) h)
+module _ (k : Core) (d K : ℕ) (m : List ℕ) (h : k .sreg < 256) where
+  adiw-again : (old : Bool) (b : ℕ) → ran (adiwBy (b ! 7) k d K) m ≡ overflowBy b (ran (adiwBy old k d K) m)
+  adiw-again old b =
+      let R = (word k d + K) % 65536 in
+      ap (λ (x : ℕ). ran (withSreg (withWord (next k 1 2) d R) x) m)
+      (row-again (bar old • R ! 15) (b ! 7) (R ! 15) (zero16 R) (bar (R ! 15) • reg k (d + 1) ! 7) (k .sreg) h)
+
+  -- by the switch, as it was and as it is
+  adiw-by : (was on : Bool)
+      → let page : Bool → Says = λ low. ran (adiwBy (pick low (reg k d ! 7) (reg k (d + 1) ! 7)) k d K) m in
+      page on ≡ asSet was on (page was) (overflowBy (reg k (pick on d (d + 1))) (page was))
+  adiw-by true true = refl
+  adiw-by true false = adiw-again (reg k d ! 7) (reg k (d + 1))
+  adiw-by false true = adiw-again (reg k (d + 1) ! 7) (reg k d)
+  adiw-by false false = refl
 
 -- ---- pointer loads
-load-by : (on : Bool) (k : Core) (d P q : ℕ) (m : List ℕ) → ran (load (pick on 3 2) k d P q m) m ≡ pick on (ran (load 3 k d P q m) m) (waits 1 (ran (load 3 k d P q m) m))
+load-by : (on : Bool) (k : Core) (d P q : ℕ) (m : List ℕ) → ran (load (pick on 3 2) k d P q m) m ≡ pick on (ran (load 3 k d P q m) m) (waits (pick on 2 1) (ran (load 3 k d P q m) m))
 unfolding load next withBusy withPc withReg
 load-by true k d P q m = refl
 load-by false k d P q m = refl
 
-load-inc-by : (on : Bool) (k : Core) (d P : ℕ) (m : List ℕ) → ran (loadInc (pick on 3 2) k d P m) m ≡ pick on (ran (loadInc 3 k d P m) m) (waits 1 (ran (loadInc 3 k d P m) m))
+load-inc-by : (on : Bool) (k : Core) (d P : ℕ) (m : List ℕ) → ran (loadInc (pick on 3 2) k d P m) m ≡ pick on (ran (loadInc 3 k d P m) m) (waits (pick on 2 1) (ran (loadInc 3 k d P m) m))
 unfolding loadInc next withBusy withPc withReg
 load-inc-by true k d P m = refl
 load-inc-by false k d P m = refl
 
-load-dec-by : (on : Bool) (k : Core) (d P : ℕ) (m : List ℕ) → ran (loadDec (pick on 3 2) k d P m) m ≡ pick on (ran (loadDec 3 k d P m) m) (waits 1 (ran (loadDec 3 k d P m) m))
+load-dec-by : (on : Bool) (k : Core) (d P : ℕ) (m : List ℕ) → ran (loadDec (pick on 3 2) k d P m) m ≡ pick on (ran (loadDec 3 k d P m) m) (waits (pick on 2 1) (ran (loadDec 3 k d P m) m))
 unfolding loadDec next withBusy withPc withReg dataOf
 load-dec-by true k d P m = refl
 load-dec-by false k d P m = refl
@@ -89,15 +96,15 @@ store-dec-sooner k r P m =
     let k₁ = withWord (next k 1 2) P a in
     rw (sooner k) (stored-busy k₁ 0 a (reg k₁ r) m)
 
-store-by : (on : Bool) (k : Core) (r P q : ℕ) (m : List ℕ) → ranOut (store (pick on 2 1) k r P q m) ≡ pick on (ranOut (store 2 k r P q m)) (waits 0 (ranOut (store 2 k r P q m)))
+store-by : (on : Bool) (k : Core) (r P q : ℕ) (m : List ℕ) → ranOut (store (pick on 2 1) k r P q m) ≡ pick on (ranOut (store 2 k r P q m)) (waits (pick on 1 0) (ranOut (store 2 k r P q m)))
 store-by true k r P q m = refl
 store-by false k r P q m = ap ranOut (store-sooner k r P q m)
 
-store-inc-by : (on : Bool) (k : Core) (r P : ℕ) (m : List ℕ) → ranOut (storeInc (pick on 2 1) k r P m) ≡ pick on (ranOut (storeInc 2 k r P m)) (waits 0 (ranOut (storeInc 2 k r P m)))
+store-inc-by : (on : Bool) (k : Core) (r P : ℕ) (m : List ℕ) → ranOut (storeInc (pick on 2 1) k r P m) ≡ pick on (ranOut (storeInc 2 k r P m)) (waits (pick on 1 0) (ranOut (storeInc 2 k r P m)))
 store-inc-by true k r P m = refl
 store-inc-by false k r P m = ap ranOut (store-inc-sooner k r P m)
 
-store-dec-by : (on : Bool) (k : Core) (r P : ℕ) (m : List ℕ) → ranOut (storeDec (pick on 2 1) k r P m) ≡ pick on (ranOut (storeDec 2 k r P m)) (waits 0 (ranOut (storeDec 2 k r P m)))
+store-dec-by : (on : Bool) (k : Core) (r P : ℕ) (m : List ℕ) → ranOut (storeDec (pick on 2 1) k r P m) ≡ pick on (ranOut (storeDec 2 k r P m)) (waits (pick on 1 0) (ranOut (storeDec 2 k r P m)))
 store-dec-by true k r P m = refl
 store-dec-by false k r P m = ap ranOut (store-dec-sooner k r P m)
 
@@ -109,7 +116,7 @@ defined-by true false e = e
 defined-by false true e = refl
 defined-by false false e = e
 
-sei-by : (on t : Bool) (k : Core) (m : List ℕ) → ran (pick (on || not t) k (withInhibit k true)) m ≡ pick t (pick on (ran k m) (inhibits (ran k m))) (ran k m)
+sei-by : (on t : Bool) (k : Core) (m : List ℕ) → ran (pick (on || not t) k (withInhibit k true)) m ≡ pick t (pick on (ran k m) (inhibits (not on) (ran k m))) (ran k m)
 sei-by true true k m = refl
 sei-by true false k m = refl
 sei-by false true k m = refl
@@ -132,12 +139,12 @@ jmp-by true k t m = refl
 jmp-by false k t m = refl
 
 -- ---- every instruction
-module _ (s : Switches) (two : Bool) (k : Core) (p m : List ℕ) (h : k .sreg < 256) where
-  pub instruction-changed : (i : Instruction) → instruction s two k i p m ≡ changed s k i (instruction theRust two k i p m)
+module _ (chip : Bool) (s : Switches) (two : Bool) (k : Core) (p m : List ℕ) (h : k .sreg < 256) where
+  pub instruction-changed : (i : Instruction) → instruction s two k i p m ≡ changed chip s k i (instruction (base chip) two k i p m)
   unfolding adiw break bset call jmp sleep wdr changed
   instruction-changed (ADC d r) = refl
   instruction-changed (ADD d r) = refl
-  instruction-changed (ADIW d K) = adiw-by (s adiwV) k d K m h
+  instruction-changed (ADIW d K) = adiw-by k d K m h (base chip adiwV) (s adiwV)
   instruction-changed (AND d r) = refl
   instruction-changed (ANDI d K) = refl
   instruction-changed (ASR d) = refl

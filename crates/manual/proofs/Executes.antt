@@ -1,4 +1,4 @@
--- With every switch on, an instruction by its page is 01's, wherever 01 does not refuse it.
+-- With the switches as the core's rule sets them, an instruction by its page is 01's, wherever 01 does not refuse it.
 -- Assumes nothing.
 use mathlib.Core.Path.{_≡_, refl, ap}
 use mathlib.Core.Bool.{Bool, true, false, Bool·beq}
@@ -22,7 +22,7 @@ use Rattle.execute.specs.Needs.{Needs, refusal, needs}
 use Rattle.execute.specs.Execute.{executed}
 use Rattle.tick.specs.Tick.{executedTick}
 use Rattle.manual.specs.Notation.{_!_, bar}
-use Rattle.manual.specs.Switches.{theRust, ran, ranOut}
+use Rattle.manual.specs.Switches.{base, ran, ranOut}
 use Rattle.manual.specs.AdcToCpse.{break, bset, cbi}
 use Rattle.manual.specs.DecToLsr.{in-, ldi}
 use Rattle.manual.specs.MovToRor.{mov, movw, nop, out-}
@@ -66,7 +66,7 @@ data-bit-false m A b e h = rw e (bit-false (getD m A 0) b h)
 -- ---- the theorem, page by page
 module _ (k : Core) (w : Ready k) (p m : List ℕ) (mm : Bytes m) where
   pub instruction-with : (i : Instruction) → InFields i → Granted (needs decodeOf (on k) i p m)
-      → instruction theRust (twoAt decodeOf (on k) p) k i p m ≡ told (executedTick (executed decodeOf (on k) i p m))
+      → instruction (base (k .chip)) (twoAt decodeOf (on k) p) k i p m ≡ told (executedTick (executed decodeOf (on k) i p m))
   unfolding withPc dataOf break bset cbi in- ldi mov movw nop out- sbi sleep swap wdr
   instruction-with (ADC d r) f h = ap (λ (c : Core). ran c m) (adc-is k w d r)
   instruction-with (ADD d r) f h = ap (λ (c : Core). ran c m) (add-is k w d r)

@@ -18,7 +18,7 @@ use Rattle.cores.specs.State.{Out, out, reg, word, withReg, withWord, withBusy,
 use Rattle.cores.specs.Flow.{brbxOf, skipped, callOf, icallOf, rcallOf, retOf, retiOf, ijmpOf, jmpOf, rjmpOf, overSecond}
 use Rattle.cores.specs.Transfer.{dataOf, setDataOf, pointedOf, wordIf, ldOf, stOf, ldsOf, stsOf, lpmOf, popOf, pushOf}
 use Rattle.manual.specs.Notation.{_!_, bar, next, goes}
-use Rattle.manual.specs.Switches.{theRust}
+use Rattle.manual.specs.Switches.{base}
 use Rattle.manual.specs.Pointers.{load, loadInc, loadDec, store, storeInc, storeDec}
 use Rattle.manual.specs.AdcToCpse.{brbc, brbs, branchTarget, call, skips}
 use Rattle.manual.specs.DecToLsr.{icall, ijmp, jmp, lds, lpm}
@@ -122,7 +122,7 @@ module _ (k : Core) (w : Ready k) where
   pop-is d m = rw (next-busy k w)
 
   -- ---- calls, returns and jumps
-  pub call-is : (t : ℕ) (m : List ℕ) → call theRust k t m ≡ callOf (on k) t m
+  pub call-is : (t : ℕ) (m : List ℕ) → call (base (k .chip)) k t m ≡ callOf (on k) t m
   unfolding call goes withPc withBusy withSp
   call-is t m = let e : (k .pc + 2) % 65536 ≡ (k .pc + 1 + 1) % 65536 = omega arith in rw e
 
@@ -150,7 +150,7 @@ module _ (k : Core) (w : Ready k) where
   unfolding ijmp goes withPc withBusy
   ijmp-is = refl
 
-  pub jmp-is : (t : ℕ) → jmp theRust k t ≡ jmpOf (on k) t
+  pub jmp-is : (t : ℕ) → jmp (base (k .chip)) k t ≡ jmpOf (on k) t
   unfolding jmp goes withPc withBusy
   jmp-is t = refl
 

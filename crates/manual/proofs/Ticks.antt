@@ -40,7 +40,7 @@ use Rattle.manual.proofs.Changes.{instruction-changed}
 
 -- what s makes of 01's tick t, where i is the instruction and j the core that it is executed from
 abbrev pub after : Switches → Core → List ℕ → Tick → Says
-after s j p t = pick (executes t) (changed s j (opcodeAt p (j .pc)) (told t)) (told t)
+after s j p t = pick (executes t) (changed (j .chip) s j (opcodeAt p (j .pc)) (told t)) (told t)
 
 -- ---- which ticks execute
 executed-answers : (d : Done) (k : Core) (m : List ℕ) → executes (gives (answerOf d) k m) ≡ true
@@ -71,19 +71,19 @@ module _ (s : Switches) (p m : List ℕ) (pp : Bytes p) (mm : Bytes m) where
   stepWith k j i next = unless (stepNeeds j i) k m (instruction s (twoWords next) j i p m)
 
   abbrev afterWith : Core → Tick → Instruction → Says
-  afterWith j t i = pick (executes t) (changed s j i (told t)) (told t)
+  afterWith j t i = pick (executes t) (changed (j .chip) s j i (told t)) (told t)
 
   said : (j : Core) → Ready j → refusal (stepNeeds j (opAt decodeOf p (j .pc))) ≡ 0
-      → instruction s (twoAt decodeOf (on j) p) j (opAt decodeOf p (j .pc)) p m ≡ changed s j (opAt decodeOf p (j .pc)) (told (executedTick (executed decodeOf (on j) (opAt decodeOf p (j .pc)) p m)))
+      → instruction s (twoAt decodeOf (on j) p) j (opAt decodeOf p (j .pc)) p m ≡ changed (j .chip) s j (opAt decodeOf p (j .pc)) (told (executedTick (executed decodeOf (on j) (opAt decodeOf p (j .pc)) p m)))
   said j w e =
       let i = opAt decodeOf p (j .pc) in
       let g = granted (stepNeeds j i) e in
       let f = fields-in-range (programWordOf p (j .pc)) (programWordOf p (j .pc + 1)) (program-word-lt p (j .pc + 1) pp) in
-      instruction-changed s (twoAt decodeOf (on j) p) j p m (w .sound .sreg-lt) i
-      ∙ ap (λ (y : Says). changed s j i y) (instruction-with j w p m mm i f (record { bytes-there = g .bytes-there }))
+      instruction-changed (j .chip) s (twoAt decodeOf (on j) p) j p m (w .sound .sreg-lt) i
+      ∙ ap (λ (y : Says). changed (j .chip) s j i y) (instruction-with j w p m mm i f (record { bytes-there = g .bytes-there }))
 
   -- refused by 01, or as said
-  unless-by : (k j : Core) (i : Instruction) (n : Needs) (x : Says) (t : Tick) (g : Bool) → eqb (refusal n) 0 ≡ g → executes t ≡ true → (refusal n ≡ 0 → x ≡ changed s j i (told t))
+  unless-by : (k j : Core) (i : Instruction) (n : Needs) (x : Says) (t : Tick) (g : Bool) → eqb (refusal n) 0 ≡ g → executes t ≡ true → (refusal n ≡ 0 → x ≡ changed (j .chip) s j i (told t))
       → pick g x (says (Refused (refusal n)) k m) ≡ afterWith j (pick g t (gives (Refused (refusal n)) k m)) i
   unless-by k j i n x t true e f h = rw f (h (eqb-true (refusal n) 0 e))
   unless-by k j i n x t false e f h = rw (refused-executes-nothing n k m)

@@ -1,11 +1,12 @@
 -- The tables of specs/Witnesses.antt, computed.
 -- Assumes nothing.
 use mathlib.Core.Path.{refl}
+use mathlib.Core.Bool.{Bool, true, false}
 use Rattle.basis.specs.Bit.{bit, put}
 use Rattle.instruction.specs.Decode.{decodeOf, nopToAddOf, mulsuToFmulsuOf, cpseToAdcOf, andToMovOf, immediateOf, displacedOf, loadOf, storeOf, oneRegisterOf, controlOf, indirectOf, wordImmediateOf, portBitOf, portOf, relativeOf, branchOrBitOf, registerBitOf}
 use Rattle.memory.specs.Memory.{programWordOf, hasWordOf}
 use Rattle.patterns.specs.Pattern.{matched}
-use Rattle.cores.specs.State.{freshOf, withReg, withPc, withSp, withBusy, withInhibit, znvs, cznvs}
+use Rattle.cores.specs.State.{freshOf, withReg, withPc, withSp, withBusy, withInhibit, withChip, znvs, cznvs}
 use Rattle.cores.specs.Transfer.{reachOf, dataOf, setDataOf, pointedOf, wordIf}
 use Rattle.tick.specs.Tick as paper
 use Rattle.tick.specs.Tick.{stepped, ticked}
@@ -17,13 +18,12 @@ use Rattle.manual.specs.DecToLsr.{jmp}
 use Rattle.manual.specs.MovToRor.{pop, push}
 use Rattle.manual.specs.SbcToWdr.{sleep, wdr}
 use Rattle.manual.specs.Tick.{step, entersOrSteps, tickBy}
-use Rattle.manual.specs.Witnesses.{Witnesses, Agreements}
+use Rattle.manual.specs.Witnesses.{Remaining, Witnesses, Agreements}
 
-pub witnesses : Witnesses
-unfolding bit put decodeOf nopToAddOf mulsuToFmulsuOf cpseToAdcOf andToMovOf immediateOf displacedOf loadOf storeOf oneRegisterOf controlOf indirectOf wordImmediateOf portBitOf portOf relativeOf branchOrBitOf registerBitOf programWordOf hasWordOf matched freshOf withReg withPc withBusy withInhibit znvs cznvs reachOf dataOf setDataOf pointedOf wordIf paper.entersOrSteps stepped ticked arms manualDecode zero8 row bitTo next goes load loadInc store adiw break bset jmp sleep wdr step entersOrSteps tickBy
-witnesses =
+remaining : (chip : Bool) → Remaining chip
+unfolding bit put decodeOf nopToAddOf mulsuToFmulsuOf cpseToAdcOf andToMovOf immediateOf displacedOf loadOf storeOf oneRegisterOf controlOf indirectOf wordImmediateOf portBitOf portOf relativeOf branchOrBitOf registerBitOf programWordOf hasWordOf matched freshOf withReg withPc withBusy withInhibit withChip znvs cznvs reachOf dataOf setDataOf pointedOf wordIf paper.entersOrSteps stepped ticked arms manualDecode zero8 row bitTo next goes load loadInc store break bset jmp sleep wdr step entersOrSteps tickBy
+remaining chip =
     record {
-      adiw = record { by-manual = refl; by-port = refl };
       load = record { by-manual = refl; by-port = refl };
       store = record { by-manual = refl; by-port = refl };
       sei = record { by-manual = refl; by-port = refl };
@@ -36,6 +36,15 @@ witnesses =
       stepped = record { by-manual = refl; by-port = refl };
     }
 
+pub witnesses : Witnesses
+unfolding bit put decodeOf nopToAddOf mulsuToFmulsuOf cpseToAdcOf andToMovOf immediateOf displacedOf loadOf storeOf oneRegisterOf controlOf indirectOf wordImmediateOf portBitOf portOf relativeOf branchOrBitOf registerBitOf programWordOf hasWordOf matched freshOf withReg withPc withBusy withInhibit withChip znvs cznvs reachOf dataOf setDataOf pointedOf wordIf paper.entersOrSteps stepped ticked arms manualDecode zero8 row bitTo next goes load loadInc store adiw break bset jmp sleep wdr step entersOrSteps tickBy
+witnesses = record { adiw = record { by-manual = refl; by-port = refl }; source = remaining false; chip = remaining true }
+
 pub agreements : Agreements
-unfolding bit decodeOf nopToAddOf mulsuToFmulsuOf cpseToAdcOf andToMovOf immediateOf displacedOf loadOf storeOf oneRegisterOf controlOf indirectOf wordImmediateOf portBitOf portOf relativeOf branchOrBitOf registerBitOf programWordOf hasWordOf matched freshOf withReg withPc withBusy withInhibit reachOf dataOf setDataOf paper.entersOrSteps stepped ticked arms manualDecode next step entersOrSteps tickBy withSp pop push
-agreements = record { pop = record { by-manual = refl; by-port = refl }; push = record { by-manual = refl; by-port = refl } }
+unfolding bit put decodeOf nopToAddOf mulsuToFmulsuOf cpseToAdcOf andToMovOf immediateOf displacedOf loadOf storeOf oneRegisterOf controlOf indirectOf wordImmediateOf portBitOf portOf relativeOf branchOrBitOf registerBitOf programWordOf hasWordOf matched freshOf withReg withPc withBusy withInhibit withChip znvs cznvs reachOf dataOf setDataOf pointedOf wordIf paper.entersOrSteps stepped ticked arms manualDecode zero8 row bitTo next goes load loadInc store adiw break bset jmp sleep wdr step entersOrSteps tickBy withSp pop push
+agreements =
+    record {
+      pop = λ chip. record { by-manual = refl; by-port = refl };
+      push = λ chip. record { by-manual = refl; by-port = refl };
+      adiw = record { by-manual = refl; by-port = refl };
+    }

@@ -1,18 +1,20 @@
--- The pages of two registers are the port's: ADIW with the Rust's V, SBIW, and the products.
+-- The pages of two registers are the port's: ADIW with the V of the core's rule, SBIW, and the products.
 -- Assumes nothing.
-use mathlib.Core.Path.{_≡_, refl}
+use mathlib.Core.Path.{_≡_, refl, ap, _∙_}
+use mathlib.Core.Bool.{Bool, true, false}
 use Prim.Native.Nat.{ℕ, _+_, _*_, _%_, _-_, _<_}
 use native.Mathlib.Omega.{arith}
+use Rattle.basis.specs.Pick.{pick}
 use Rattle.bits.proofs.Tops.{bit7, bit15, bit16, high7, clear}
 use Rattle.bits.proofs.Carries.{carry16, borrow16}
 use Rattle.bits.proofs.Products.{both-signed, first-signed}
 use Rattle.alu.specs.Alu.{productOf, signedOf}
 use Rattle.cores.specs.declared.Core.{Core}
 use Rattle.cores.specs.State.{reg, withReg, withWord, withSreg, withBusy, withPc}
-use Rattle.cores.specs.Arithmetic.{adiwOf, sbiwOf, multiplied, fractional, mulOf, mulsOf, mulsuOf, fmulOf, fmulsOf, fmulsuOf}
+use Rattle.cores.specs.Arithmetic.{oldBitClear, adiwOf, sbiwOf, multiplied, fractional, mulOf, mulsOf, mulsuOf, fmulOf, fmulsOf, fmulsuOf}
 use Rattle.cores.proofs.Bounds.{word-lt}
-use Rattle.manual.specs.Notation.{_!_, zero16, kept, is, row, next}
-use Rattle.manual.specs.Switches.{theRust}
+use Rattle.manual.specs.Notation.{_!_, bar, zero16, kept, is, row, next}
+use Rattle.manual.specs.Switches.{adiwV, base}
 use Rattle.manual.specs.AdcToCpse.{adiw}
 use Rattle.manual.specs.DecToLsr.{fmul, fmuls, fmulsu}
 use Rattle.manual.specs.MovToRor.{mul, muls, mulsu}
@@ -23,8 +25,13 @@ use Rattle.manual.proofs.Ready.{Ready, on, next-busy}
 low-byte : (h l : ℕ) → l < 256 → (h * 256 + l) % 256 ≡ l
 low-byte h l a = omega arith
 
+-- the old bit that ADIW's V looks at is clear, in a word of the bytes h and l
+old-bit : (chip : Bool) (h l : ℕ) → h < 256 → l < 256 → bar (pick (base chip adiwV) (l ! 7) (h ! 7)) ≡ oldBitClear chip (h * 256 + l)
+old-bit true h l hh hl = ap bar (high7 h l hh hl) ∙ clear 32768 (h * 256 + l)
+old-bit false h l hh hl = rw (bit7 l hl, clear 128 l, low-byte h l hl)
+
 module _ (k : Core) (w : Ready k) where
-  pub adiw-is : (d K : ℕ) → K < 64 → adiw theRust k d K ≡ adiwOf (on k) d K
+  pub adiw-is : (d K : ℕ) → K < 64 → adiw (base (k .chip)) k d K ≡ adiwOf (on k) d K
   unfolding adiw withPc withReg withBusy
   adiw-is d n hn =
       let s = w .sound .sreg-lt in
@@ -36,7 +43,7 @@ module _ (k : Core) (w : Ready k) where
       let ha : a < 65536 = word-lt (k .regs) d (w .sound .reg-lt) in
       let x = (a + n) % 65536 in
       let hx : x < 65536 = omega arith in
-      rw (next-busy k w, row-cznvs, bit15 x hx, high7 h l hh hl, carry16 a n ha hn, zero16-is x hx, bit7 l hl, clear 128 l, low-byte h l hl)
+      rw (next-busy k w, row-cznvs, old-bit (k .chip) h l hh hl, bit15 x hx, high7 h l hh hl, carry16 a n ha hn, zero16-is x hx)
 
   pub sbiw-is : (d K : ℕ) → K < 64 → sbiw k d K ≡ sbiwOf (on k) d K
   unfolding sbiw withPc withReg withBusy

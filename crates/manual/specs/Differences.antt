@@ -1,5 +1,5 @@
--- What each switch, turned off, changes of what an instruction does with every switch on, and at which instructions.
-use mathlib.Core.Bool.{Bool, true, false, _&&_, _||_}
+-- What each switch, turned the other way than a rule has it, changes of what an instruction does under that rule, and at which instructions.
+use mathlib.Core.Bool.{Bool, true, false, not, _&&_, _||_}
 use mathlib.Core.List.{List, [], _∷_}
 use Prim.Native.Nat.{ℕ, _+_}
 use lib.Dec.{eqb}
@@ -11,7 +11,7 @@ use Rattle.cores.specs.declared.Core.{Core}
 use Rattle.cores.specs.State.{reg, withSreg, withBusy, withPc, withInhibit}
 use Rattle.tick.specs.declared.Answer.the-variants.{Ran}
 use Rattle.manual.specs.Notation.{_!_, _•_, _⊕_, bar, kept, is, row}
-use Rattle.manual.specs.Switches.{Switch, adiwV, loads, stores, afterSei, unknown, outside, end, target, pointers, Switches, Says, undefined, sleeps, says}
+use Rattle.manual.specs.Switches.{Switch, adiwV, loads, stores, afterSei, unknown, outside, end, target, pointers, Switches, base, Says, undefined, sleeps, says}
 use Rattle.manual.specs.Pointers.{X, Y, Z, isIn}
 
 -- ---- at which instructions
@@ -38,19 +38,19 @@ lists end i = false
 lists target i = oneOf (CALL 0 ∷ JMP 0 ∷ []) i
 lists pointers i = stepsItsOwn i
 
--- a switch of l lists i
-abbrev pub listedBy : List Switch → Instruction → Bool
-listedBy [] i = false
-listedBy (w ∷ l) i = lists w i || listedBy l i
+-- a switch of l that the rule has on lists i
+abbrev pub listedBy : List Switch → Bool → Instruction → Bool
+listedBy [] chip i = false
+listedBy (w ∷ l) chip i = (base chip w && lists w i) || listedBy l chip i
 
 -- ---- what is changed
--- V by bit 7 of the high byte h that was: set where that was clear and the result's bit 15, which N has, is set; S with it
+-- V by bit 7 of a byte b that was: set where that was clear and the result's bit 15, which N has, is set; S with it
 abbrev pub overflowBy : ℕ → Says → Says
-overflowBy h undefined = undefined
-overflowBy h (sleeps k m) = sleeps k m
-overflowBy h (says a k m) =
+overflowBy b undefined = undefined
+overflowBy b (sleeps k m) = sleeps k m
+overflowBy b (says a k m) =
     let N = k .sreg ! 2 in
-    let «V» = bar (h ! 7) • N in
+    let «V» = bar (b ! 7) • N in
     says a (withSreg k (row (k .sreg) kept kept kept (is (N ⊕ «V»)) (is «V») kept kept kept)) m
 
 -- busy n
@@ -59,11 +59,11 @@ waits n undefined = undefined
 waits n (sleeps k m) = sleeps k m
 waits n (says a k m) = says a (withBusy k n) m
 
--- inhibit set
-abbrev pub inhibits : Says → Says
-inhibits undefined = undefined
-inhibits (sleeps k m) = sleeps k m
-inhibits (says a k m) = says a (withInhibit k true) m
+-- inhibit made so
+abbrev pub inhibits : Bool → Says → Says
+inhibits on undefined = undefined
+inhibits on (sleeps k m) = sleeps k m
+inhibits on (says a k m) = says a (withInhibit k on) m
 
 -- PC t
 abbrev pub lands : ℕ → Says → Says
@@ -78,31 +78,37 @@ plainly i (sleeps k m) = sleeps k m
 plainly i (says a k m) = pick (oneOf (SLEEP ∷ []) i) (sleeps k m) (says Ran k m)
 
 -- ---- each switch
--- what switch w, turned off, makes of what is said of an instruction i that it lists, from core k
-abbrev pub changes : Switch → Core → Instruction → Says → Says
-changes adiwV k i x = overflowBy (reg k (field i + 1)) x
-changes loads k i x = waits 1 x
-changes stores k i x = waits 0 x
-changes afterSei k i x = inhibits x
-changes unknown k i x = undefined
-changes outside k i x = plainly i x
-changes end k i x = x
-changes target k i x = lands (field i) x
-changes pointers k i x = undefined
+-- what switch w, turned on or off, makes of what is said of an instruction i that it lists, from core k
+abbrev pub changes : Switch → Bool → Core → Instruction → Says → Says
+changes adiwV on k i x = overflowBy (reg k (pick on (field i) (field i + 1))) x
+changes loads on k i x = waits (pick on 2 1) x
+changes stores on k i x = waits (pick on 1 0) x
+changes afterSei on k i x = inhibits (not on) x
+-- every rule has these on: they are turned off
+changes unknown on k i x = undefined
+changes outside on k i x = plainly i x
+changes end on k i x = x
+changes target on k i x = lands (field i) x
+changes pointers on k i x = undefined
 
--- by the switches of l, each where s has it off and it lists i
-abbrev pub changedBy : List Switch → Switches → Core → Instruction → Says → Says
-changedBy [] s k i x = x
-changedBy (w ∷ l) s k i x = changedBy l s k i (pick (lists w i) (pick (s w) x (changes w k i x)) x)
+-- x where a switch is set as the rule has it, y where it is turned
+abbrev pub asSet : Bool → Bool → Says → Says → Says
+asSet true on x y = pick on x y
+asSet false on x y = pick on y x
+
+-- by the switches of l, each where s has it the other way than the rule and it lists i
+abbrev pub changedBy : List Switch → Bool → Switches → Core → Instruction → Says → Says
+changedBy [] chip s k i x = x
+changedBy (w ∷ l) chip s k i x = changedBy l chip s k i (pick (lists w i) (asSet (base chip w) (s w) x (changes w (s w) k i x)) x)
 
 -- the nine; the end changes nothing here
 abbrev pub all : List Switch
 all = adiwV ∷ loads ∷ stores ∷ afterSei ∷ unknown ∷ outside ∷ end ∷ target ∷ pointers ∷ []
 
--- what settings s say of instruction i from core k, by what is said with every switch on
-unfoldable pub changed : Switches → Core → Instruction → Says → Says
-changed s k i x = changedBy all s k i x
+-- what settings s say of instruction i from core k, by what is said under the rule
+unfoldable pub changed : Bool → Switches → Core → Instruction → Says → Says
+changed chip s k i x = changedBy all chip s k i x
 
--- an instruction that a switch lists
-abbrev pub listed : Instruction → Bool
-listed i = listedBy all i
+-- an instruction that remains listed under the rule
+abbrev pub listed : Bool → Instruction → Bool
+listed chip i = listedBy all chip i

@@ -1,13 +1,14 @@
 -- Demand 2, the manual, for every core by its types with busy at most 4, every program, data and offer.
--- 1. With every switch on, the manual's tick is 01's, refusals included: they are 01's in both.
+-- Under source and under chip: `base` (specs/Switches.antt) says how a rule sets the switches, all of them on under source, and which of them chip turns off.
+-- 1. With the switches as the core's rule sets them, the manual's tick is 01's, refusals included: they are 01's in both.
 -- 2. With the end at PC 65,535 on and the other eight switches set in any way, the tick is 01's, changed as specs/Differences.antt says where an instruction was
 --    executed, and not at all where the tick waited, entered, ended or was refused.
--- 3. So each of the eight, turned off alone, changes what it names at the instructions it lists, and nothing else.
+-- 3. So each of the eight, alone turned the other way than the rule has it, changes what it names at the instructions it lists, and nothing else.
 -- 4. The ninth, the end, turned off, changes the ticks that end, and these alone: they execute what stands at PC 65,535, or refuse it.
--- 5. With every switch off, which is the manual itself, the tick is 01's unless it ends or executes a listed instruction.
+-- 5. With every switch off, which is the manual itself, the tick is 01's unless it ends or executes an instruction that remains listed under the rule.
 -- Settings s, switch w, core k, program p, data m, offer o, tick t, instruction i.
 use mathlib.Core.Path.{_≡_}
-use mathlib.Core.Bool.{Bool, true, false, _&&_}
+use mathlib.Core.Bool.{Bool, true, false, not, _&&_}
 use mathlib.Core.List.{List}
 use Prim.Native.Nat.{ℕ}
 use lib.Dec.{eqb, leb}
@@ -17,7 +18,7 @@ use Rattle.cores.specs.declared.Core.{Core}
 use Rattle.cores.specs.State.{Sound, withInhibit}
 use Rattle.tick.specs.declared.Offer.{Offer}
 use Rattle.tick.specs.Tick.{Tick, numberOf, tickOf}
-use Rattle.manual.specs.Switches.{Switch, adiwV, loads, stores, afterSei, unknown, outside, end, target, pointers, Switches, theRust, theManual, turned, allBut}
+use Rattle.manual.specs.Switches.{Switch, adiwV, loads, stores, afterSei, unknown, outside, end, target, pointers, Switches, base, theManual, turned, baseBut}
 use Rattle.manual.specs.Tick.{told, opcodeAt, step, tickBy}
 use Rattle.manual.specs.Differences.{lists, listed, changes, changed}
 
@@ -31,7 +32,7 @@ ended t = eqb (numberOf (t .answer)) 23
 
 -- ---- 1
 abbrev pub EqualsTheManual : Type 0
-EqualsTheManual = (k : Core) (p m : List ℕ) (o : Offer) → Sound k → Bytes p → Bytes m → tickBy theRust k p m o ≡ told (tickOf k p m o)
+EqualsTheManual = (k : Core) (p m : List ℕ) (o : Offer) → Sound k → Bytes p → Bytes m → tickBy (base (k .chip)) k p m o ≡ told (tickOf k p m o)
 
 -- ---- 2
 abbrev pub EqualsBySwitches : Type 0
@@ -39,18 +40,18 @@ EqualsBySwitches =
     (s : Switches) (k : Core) (p m : List ℕ) (o : Offer) → Sound k → Bytes p → Bytes m → s end ≡ true
     → let t = tickOf k p m o in
     let i = opcodeAt p (k .pc) in
-    tickBy s k p m o ≡ pick (executes t) (changed s (withInhibit k false) i (told t)) (told t)
+    tickBy s k p m o ≡ pick (executes t) (changed (k .chip) s (withInhibit k false) i (told t)) (told t)
 
 -- ---- 3
--- w, one of the eight, alone off: its change where an instruction that it lists was executed, and none else
+-- w, one of the eight, alone the other way: its change where an instruction that it lists was executed, and none else
 abbrev pub Alone : Switch → Type 0
 Alone w =
     (k : Core) (p m : List ℕ) (o : Offer) → Sound k → Bytes p → Bytes m
     → let t = tickOf k p m o in
     let i = opcodeAt p (k .pc) in
-    tickBy (allBut w) k p m o ≡ pick (executes t && lists w i) (changes w k i (told t)) (told t)
+    tickBy (baseBut (k .chip) w) k p m o ≡ pick (executes t && lists w i) (changes w (not (base (k .chip) w)) k i (told t)) (told t)
 
--- ADIW: V and S
+-- ADIW: V and S become the manual's under source, and the Rust's under chip
 abbrev pub AdiwAlone : Type 0
 AdiwAlone = Alone adiwV
 
@@ -97,4 +98,4 @@ EqualsUnlessListed =
     (k : Core) (p m : List ℕ) (o : Offer) → Sound k → Bytes p → Bytes m
     → let t = tickOf k p m o in
     let i = opcodeAt p (k .pc) in
-    ended t ≡ false → (executes t && listed i) ≡ false → tickBy theManual k p m o ≡ told t
+    ended t ≡ false → (executes t && listed (k .chip) i) ≡ false → tickBy theManual k p m o ≡ told t

@@ -1,5 +1,5 @@
 -- 01's listed differences, a switch each, and what the manual can say of an instruction.
-use mathlib.Core.Bool.{Bool, true, false}
+use mathlib.Core.Bool.{Bool, true, false, not}
 use mathlib.Core.List.{List}
 use Prim.Native.Nat.{ℕ}
 use lib.Dec.{eqb}
@@ -25,8 +25,17 @@ pub data Switch : Type 0 where
 abbrev pub Switches : Type 0
 Switches = Switch → Bool
 
-abbrev pub theRust : Switches
-theRust w = true
+-- how a rule, source or chip, sets each. 02, W2: "Under chip, ADIW's V is old bit 15 clear and new bit 15 set"
+abbrev pub base : Bool → Switches
+base chip adiwV = not chip
+base chip loads = true
+base chip stores = true
+base chip afterSei = true
+base chip unknown = true
+base chip outside = true
+base chip end = true
+base chip target = true
+base chip pointers = true
 
 abbrev pub theManual : Switches
 theManual w = false
@@ -47,9 +56,9 @@ place pointers = 9
 abbrev pub turned : Switch → Bool → Switches → Switches
 turned w on s v = pick (eqb (place w) (place v)) on (s v)
 
--- every switch on but w
-abbrev pub allBut : Switch → Switches
-allBut w = turned w false theRust
+-- as the rule sets them, but for w, which is the other way
+abbrev pub baseBut : Bool → Switch → Switches
+baseBut chip w = turned w (not (base chip w)) (base chip)
 
 -- what an instruction does
 pub data Says : Type 0 where

@@ -5,6 +5,8 @@ use Rattle.invariants.proofs.Ranges.{instructions-stay-in-range}
 use Rattle.invariants.proofs.Waits.{instructions-wait-at-most-3}
 use Rattle.invariants.proofs.Registers.{other-registers-kept, register-only-keeps-the-rest}
 use Rattle.invariants.proofs.Ticks.{ticks-answer-tick-numbers}
+use Rattle.invariants.proofs.Rule.{instructions-keep-the-rule, ticks-keep-the-rule, rules-differ-where-asked}
+use Rattle.snapshot.proofs.RoundTrips.{old-snapshots-read-unchanged}
 use Rattle.source.proofs.Bench.{bench-on-the-rust, fresh-cores-are-sound}
 use Rattle.manual.proofs.Witnesses.{agreements}
 use Rattle.table.proofs.HostCalls.{tick-calls-write-the-next-core, run-calls-write-the-last-core}
@@ -38,6 +40,10 @@ claims =
       bench-on-the-rust = bench-on-the-rust;
       fresh-cores = fresh-cores-are-sound;
       agreements = agreements;
+      instructions-rule = instructions-keep-the-rule;
+      ticks-rule = ticks-keep-the-rule;
+      rules-differ = rules-differ-where-asked;
+      old-snapshots = old-snapshots-read-unchanged;
       hex-numbers = each-number-exactly;
       hex-given-back = given-back;
       hex-refused-read = refused-read;

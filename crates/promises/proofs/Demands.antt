@@ -16,7 +16,7 @@ use Rattle.manual.proofs.Witnesses.{witnesses}
 use Rattle.promises.specs.Demands.{Demand1, Demand2, Demand3}
 use Rattle.promises.proofs.OneOutcome.{one-outcome}
 use Rattle.promises.proofs.BenchSheet.{bench-sheet}
-use Rattle.promises.proofs.Interrupts.{interrupts-leave-no-trace, no-trace-at-the-end, three-waits-after-reti}
+use Rattle.promises.proofs.Interrupts.{interrupts-leave-no-trace, no-trace-at-the-end, runs-keep-the-rule, three-waits-after-reti}
 use Rattle.promises.proofs.Stamps.{stamps-in-order, flag-lost}
 
 pub demand1 : Demand1
@@ -70,6 +70,7 @@ demand3 =
     record {
       no-trace = interrupts-leave-no-trace;
       no-trace-at-the-end = no-trace-at-the-end;
+      rule = runs-keep-the-rule;
       three-waits = three-waits-after-reti;
       stamps = stamps-in-order;
       flag-lost = flag-lost;

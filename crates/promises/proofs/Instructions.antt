@@ -15,7 +15,7 @@ use Rattle.instruction.specs.Code.{twoWords}
 use Rattle.instruction.specs.declared.Instruction.{Instruction}
 use Rattle.instruction.specs.declared.Instruction.the-variants.{ADC, ADD, ADIW, AND, ANDI, ASR, BCLR, BLD, BRBC, BRBS, BREAK, BSET, BST, CALL, CBI, COM, CP, CPC, CPI, CPSE, DEC, EOR, FMUL, FMULS, FMULSU, ICALL, IJMP, IN, INC, JMP, LDX, LDXinc, LDXdec, LDYinc, LDYdec, LDZinc, LDZdec, LDDY, LDDZ, LDI, LDS, LPM, LPMZ, LPMZinc, LSL, LSR, MOV, MOVW, MUL, MULS, MULSU, NEG, NOP, OR, ORI, OUT, POP, PUSH, RCALL, RET, RETI, RJMP, ROR, SBC, SBCI, SBI, SBIC, SBIS, SBIW, SBRC, SBRS, SLEEP, STX, STXdec, STXinc, STYdec, STYinc, STZdec, STZinc, STDY, STDZ, STS, SUB, SUBI, SWAP, WDR, UNDEF}
 use Rattle.cores.specs.declared.Core.{Core}
-use Rattle.cores.specs.State.{Out, flag, freshOf, withRegs, withReg, withSreg, withPc, withSp, withBusy, withInhibit, withService}
+use Rattle.cores.specs.State.{Out, flag, freshOf, withRegs, withReg, withSreg, withPc, withSp, withBusy, withInhibit, withService, withChip}
 use Rattle.cores.specs.Flow.{brbxOf, skipped}
 use Rattle.cores.specs.Transfer.{setDataOf, wordIf, ldOf, stOf}
 use Rattle.execute.specs.Needs.{needs, nothing}
@@ -30,12 +30,15 @@ keptOf k = record { regs = k .regs; sreg = k .sreg }
 abbrev pub withKept : Core → Kept → Core
 withKept k r = withSreg (withRegs k (r .regs)) (r .sreg)
 
--- what an instruction makes of registers and SREG, and the waits after it, where nothing else goes into them
-abbrev pub doesOf : Instruction → Kept → Kept
-doesOf op r = keptOf (executed decodeOf (withKept (freshOf 0) r) op [] [] .core)
+-- what an instruction makes of registers and SREG under a rule, and the waits after it, where nothing else goes into them: on a fresh core of that rule
+abbrev pub freshUnder : Bool → Core
+freshUnder chip = withChip (freshOf 0) chip
 
-abbrev pub waitsOf : Instruction → ℕ
-waitsOf op = executed decodeOf (freshOf 0) op [] [] .core .busy
+abbrev pub doesOf : Bool → Instruction → Kept → Kept
+doesOf chip op r = keptOf (executed decodeOf (withKept (freshUnder chip) r) op [] [] .core)
+
+abbrev pub waitsOf : Bool → Instruction → ℕ
+waitsOf chip op = executed decodeOf (freshUnder chip) op [] [] .core .busy
 
 -- ---- in-service, past a choice
 branch-service : (k : Core) (s o : ℕ) (on : Bool) → brbxOf k s o on .«in_service» ≡ k .«in_service»
@@ -73,15 +76,15 @@ store-service k r p q dec inc m = pointer-service _ _ _ _ ∙ data-service _ _ _
 -- ---- the table
 abbrev pub Fact : Kind → Instruction → Core → List ℕ → List ℕ → Type 0
 Fact registerOnly op k p m =
-    (executed decodeOf (withBusy k 0) op p m ≡ ran (withBusy (withKept k (doesOf op (keptOf k))) (waitsOf op)) m)
+    (executed decodeOf (withBusy k 0) op p m ≡ ran (withBusy (withKept k (doesOf (k .chip) op (keptOf k))) (waitsOf (k .chip) op)) m)
     × (needs decodeOf k op p m ≡ nothing)
     × (twoWords op ≡ false)
-    × (leb (waitsOf op) 1 ≡ true)
+    × (leb (waitsOf (k .chip) op) 1 ≡ true)
 Fact return op k p m = op ≡ RETI
 Fact other op k p m = executed decodeOf k op p m .core .«in_service» ≡ k .«in_service»
 
 pub fact : (op : Instruction) (k : Core) (p m : List ℕ) → Fact (kindOf op) op k p m
-unfolding freshOf withRegs withReg withPc withSp withBusy withInhibit withService
+unfolding freshOf withRegs withReg withPc withSp withBusy withInhibit withService withChip
 fact (ADC d r) k p m = (refl, refl, refl, refl)
 fact (ADD d r) k p m = (refl, refl, refl, refl)
 fact (ADIW d K) k p m = (refl, refl, refl, refl)

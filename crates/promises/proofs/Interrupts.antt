@@ -1,12 +1,13 @@
 -- Demand 3, of 01's tick: the proof for any machine, at the laws of `tickOf`.
 -- Assumes nothing.
-use mathlib.Core.Path.{_≡_}
+use mathlib.Core.Path.{_≡_, refl, _∙_}
 use mathlib.Core.List.{List}
-use Prim.Native.Nat.{ℕ, suc, _+_, _<_}
+use Prim.Native.Nat.{ℕ, zero, suc, _+_, _<_}
 use native.Mathlib.Omega.{arith}
 use Rattle.cores.specs.State.{withBusy}
+use Rattle.invariants.proofs.Rule.{ticks-keep-the-rule}
 use Rattle.promises.specs.Handlers.{iterated, First}
-use Rattle.promises.specs.Interrupts.{State, Offers, noOffers, AtEnd, pc, after, numberAt, Ended, Restored, Handled, NoTrace, InterruptsLeaveNoTrace, NoTraceAtTheEnd, ThreeWaitsAfterReti}
+use Rattle.promises.specs.Interrupts.{State, Offers, noOffers, AtEnd, pc, after, numberAt, Ended, Restored, Handled, NoTrace, InterruptsLeaveNoTrace, NoTraceAtTheEnd, RunsKeepTheRule, ThreeWaitsAfterReti}
 use Rattle.promises.specs.Machine as any
 use Rattle.promises.proofs.Arrival.{transparent, transparent-at}
 use Rattle.promises.proofs.Ticks.{busy-tick}
@@ -69,6 +70,14 @@ no-trace-at-the-end p s n v J a =
     let (I, x) = transparent-at (avr p) v s n J laws (from-first p s n v (a .first)) (a .allowed)
     (λ t r h e f. from-restored p s n v (a .restored t r h e f)) (a .begins .ready) (a .begins .free) in
     (I, to-no-trace p s n v x)
+
+-- ---- the rule
+pub runs-keep-the-rule : RunsKeepTheRule
+unfolding iterated
+runs-keep-the-rule p s v zero = refl
+runs-keep-the-rule p s v (suc j) =
+    let x = after p s v j in
+    ticks-keep-the-rule (x .core) p (x .bytes) (v j) ∙ runs-keep-the-rule p s v j
 
 -- ---- the third wait
 waited : (p : List ℕ) (s : State) (v : Offers) (t b : ℕ) → after p s v t .core .busy ≡ suc b → b < 4

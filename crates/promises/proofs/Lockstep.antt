@@ -12,7 +12,7 @@ use Rattle.promises.proofs.Logic.{grow}
 use Rattle.promises.specs.Machine.{Machine, Given, AtEnd, InStretch, after, entersAt, returnsAt, quiet}
 
 module _ {M : Machine} (G : Given M) where
-  open Machine M using (State, none, tick, Plain, kept, pc, sp, busy, service, bytes)
+  open Machine M using (State, Offer, none, tick, Plain, kept, pc, sp, busy, service, rule, bytes)
   open Given G using (v, s, n, laws, allowed)
 
   -- the two runs, and what the first does at each tick
@@ -30,6 +30,12 @@ module _ {M : Machine} (G : Given M) where
 
   abbrev pub End : State → Type 0
   End a = AtEnd M (pc s + n) a
+
+  -- both keep the rule that they begin with
+  rule-kept : (w : ℕ → Offer) (j : ℕ) → rule (after M w s j) ≡ rule s
+  unfolding iterated
+  rule-kept w zero = refl
+  rule-kept w (suc j) = laws .ruled (w j) (after M w s j) ∙ rule-kept w j
 
   -- ---- what is known of the ticks done
   -- tick t is no handler's, and writes nothing
@@ -154,12 +160,13 @@ module _ {M : Machine} (G : Given M) where
       let rv = laws .run (v j) (run j) in-v (allowed j (not-yet j (l .past) not-v)) e in
       let rq = laws .run none (plain i) in-q may calm in
       let same-pc = x .here ∙ sym (x .plain-here) in
-      let cheap = laws .cheap (pc (run j)) (in-v .above) (in-v .below) in (
+      let same-rule = rule-kept v j ∙ sym (rule-kept (quiet M) i) in
+      let cheap = laws .cheap (rule (run j)) (pc (run j)) (in-v .above) (in-v .below) in (
         both j i k (suc k) l not-v not-q e goes (rv .bytes′) (rq .bytes′)
             (record {
-              same-kept = rv .kept′ ∙ rw (same-pc, x .same-kept) (sym (rq .kept′));
+              same-kept = rv .kept′ ∙ rw (same-rule, same-pc, x .same-kept) (sym (rq .kept′));
               same-sp = rv .sp′ ∙ x .same-sp ∙ sym (rq .sp′);
-              same-busy = rv .busy′ ∙ rw same-pc (sym (rq .busy′));
+              same-busy = rv .busy′ ∙ rw (same-rule, same-pc) (sym (rq .busy′));
               here = omega (arith, rv .pc′, x .here);
               plain-here = omega (arith, rq .pc′, x .plain-here);
               free = rv .service′ ∙ x .free;

@@ -17,7 +17,7 @@ use Rattle.instruction.specs.declared.Instruction.the-variants.{RETI}
 use Rattle.memory.specs.Memory.{hasOf, hasWordOf}
 use Rattle.cores.specs.declared.Core.{Core}
 use Rattle.cores.specs.Flow.{opAt}
-use Rattle.cores.specs.State.{freshOf, withRegs, withPc, withSp, withBusy, withInhibit, withService}
+use Rattle.cores.specs.State.{freshOf, withRegs, withPc, withSp, withBusy, withInhibit, withService, withChip}
 use Rattle.execute.specs.Needs.{refusal, pushNeeds, needs, fetched, withFetch}
 use Rattle.execute.specs.Execute.{executed}
 use Rattle.tick.specs.Tick.{Tick, gives, decided, due, entry, executedTick, stepped, entersOrSteps, tickOf, numberOf}
@@ -25,11 +25,12 @@ use Rattle.execute.specs.declared.Done.{Done}
 use Rattle.tick.specs.declared.Offer.{Offer}
 use Rattle.tick.specs.declared.Offer.the-variants.{Vector, Nothing}
 use Rattle.tick.specs.declared.Answer.the-variants.{Ran, Entered}
+use Rattle.invariants.proofs.Rule.{ticks-keep-the-rule}
 use Rattle.tick.proofs.Steps.{every-decided, every-due, onward, every-tick}
 use Rattle.promises.specs.RegisterOnly.{Kind, registerOnly, return, other, kindOf, isReturn}
 use Rattle.promises.specs.Interrupts.{State, Kept, kept, pc, sp, tickAt, next, Stretch}
 use Rattle.promises.specs.Machine.{Machine, Laws, Waits, Runs, Enters, Returns}
-use Rattle.promises.proofs.Instructions.{keptOf, withKept, doesOf, waitsOf, Fact, fact}
+use Rattle.promises.proofs.Instructions.{keptOf, withKept, freshUnder, doesOf, waitsOf, Fact, fact}
 use Rattle.promises.proofs.Ticks.{done-enters-not, busy-tick, free-tick}
 use Rattle.promises.proofs.Stack.{low-byte, high-byte, met, push-room}
 
@@ -53,6 +54,7 @@ avr p =
       State = State;
       Offer = Offer;
       Kept = Kept;
+      Rule = Bool;
       none = Nothing;
       tick = next p;
       Allowed = λ o s. 16 ≤ number (tickAt p o s);
@@ -65,6 +67,7 @@ avr p =
       busy = λ s. s .core .busy;
       inhibit = λ s. s .core .inhibit;
       service = λ s. s .core .«in_service»;
+      rule = λ s. s .core .chip;
       bytes = λ s. s .bytes;
     }
 
@@ -80,7 +83,7 @@ module _ (p : List ℕ) where
   -- ---- an instruction of the stretch
   -- the core after it
   abbrev ranOn : Core → Instruction → Core
-  ranOn k op = withBusy (withKept (onward k) (doesOf op (keptOf k))) (waitsOf op)
+  ranOn k op = withBusy (withKept (onward k) (doesOf (k .chip) op (keptOf k))) (waitsOf (k .chip) op)
 
   idle : (k : Core) → k .busy ≡ 0 → withBusy k 0 ≡ k
   unfolding withBusy
@@ -109,7 +112,7 @@ module _ (p : List ℕ) where
     run-tick = rw (ne-eqb (k .pc) 65535 (omega arith)) (stepped-listed op k m b there l)
 
     abbrev RunsIn : Tick → Type 0
-    RunsIn t = Runs (avr p) (record { core = k; bytes = m }) (stateOf t) (doesOf op (keptOf k)) (waitsOf op)
+    RunsIn t = Runs (avr p) (record { core = k; bytes = m }) (stateOf t) (doesOf (k .chip) op (keptOf k)) (waitsOf (k .chip) op)
 
     runs : RunsIn (gives Ran (ranOn k op) m)
     unfolding withRegs withBusy withPc withInhibit
@@ -216,12 +219,17 @@ module _ (p : List ℕ) where
       reti-tick o (s .core) (s .bytes) (kind-return (opAt decodeOf p (pc s)) is) ran
 
   -- ---- all of them, of a stretch
+  cheap-under : (chip : Bool) (op : Instruction) → kindOf op ≡ registerOnly → leb (waitsOf chip op) 1 ≡ true
+  unfolding withChip
+  cheap-under chip op l = listed op (freshUnder chip) [] l .3
+
   pub tick-laws : (start finish : ℕ) → Stretch p start finish → Laws (avr p) start finish
   tick-laws start finish S =
       record {
-        does = λ x. doesOf (opAt decodeOf p x);
-        cost = λ x. waitsOf (opAt decodeOf p x);
-        cheap = λ x a b. leb-true (waitsOf (opAt decodeOf p x)) 1 (listed (opAt decodeOf p x) (freshOf 0) [] (S .list x a b) .3);
+        does = λ chip x. doesOf chip (opAt decodeOf p x);
+        cost = λ chip x. waitsOf chip (opAt decodeOf p x);
+        cheap = λ chip x a b. leb-true (waitsOf chip (opAt decodeOf p x)) 1 (cheap-under chip (opAt decodeOf p x) (S .list x a b));
+        ruled = λ o s. ticks-keep-the-rule (s .core) p (s .bytes) o;
         wait = wait-law;
         calm = λ s i.
             let there = S .there (pc s) (i .above) (i .below) in

@@ -1,4 +1,4 @@
--- 01's bench sheet over 01's tick: thirteen lines, each with all that its ticks leave.
+-- 01's bench sheet over 01's tick: thirteen lines, each with all that its ticks leave; and the second again by 02, W2.
 use mathlib.Core.Path.{_≡_}
 use mathlib.Core.Bool.{true}
 use mathlib.Core.List.{List, [], _∷_}
@@ -7,7 +7,7 @@ use lib.ListN.{replicate, set}
 use Rattle.instruction.specs.declared.Instruction.the-variants.{ADD, NOP, UNDEF}
 use Rattle.instruction.specs.Decode.{decodeOf}
 use Rattle.cores.specs.declared.Core.{Core}
-use Rattle.cores.specs.State.{freshOf, withReg, withWord, withSreg, withPc, withSp, withBusy, withService}
+use Rattle.cores.specs.State.{freshOf, withReg, withWord, withSreg, withPc, withSp, withBusy, withService, withChip}
 use Rattle.tick.specs.declared.Offer.the-variants.{Vector, Nothing}
 use Rattle.tick.specs.declared.Answer.{Answer}
 use Rattle.tick.specs.declared.Answer.the-variants.{Refused, Waited, Entered, Ran, End}
@@ -39,6 +39,9 @@ pub record BenchSheet : Type 0 where
   pub line-1 : (decodeOf 0x0C00 0 ≡ ADD 0 0) × (decodeOf 0 0 ≡ NOP) × (decodeOf 1 0 ≡ UNDEF)
   -- 2: ADIW on 0x8001 by 1: 0x8002, N 1 V 1 S 0 C 0
   pub line-2 : let k = withWord (freshOf 0) 24 0x8001 in Runs k (0x01 ∷ 0x96 ∷ []) (withPc (withBusy (withSreg (withWord k 24 0x8002) 0x0C) 1) 1)
+  -- 02, W2, under chip: "bench line 2 reads V 0, S 1"
+  pub line-2-chip :
+      let k = withChip (withWord (freshOf 0) 24 0x8001) true in Runs k (0x01 ∷ 0x96 ∷ []) (withPc (withBusy (withSreg (withWord k 24 0x8002) 0x14) 1) 1)
   -- 3: from SREG 0, CP 0xFF,0x00 then CPC 0x00,0x01: SREG 0x35
   pub line-3 :
       let p : List ℕ = 0x01 ∷ 0x14 ∷ 0x23 ∷ 0x04 ∷ [] in

@@ -3,6 +3,8 @@
 use Rattle.instruction.specs.Fields.{FieldsInRange, SecondWordAlone}
 use Rattle.invariants.specs.Instructions.{InstructionsStayInRange, InstructionsWaitAtMost3, OtherRegistersKept, RegisterOnlyKeepsTheRest}
 use Rattle.invariants.specs.Ticks.{TicksAnswerTickNumbers}
+use Rattle.invariants.specs.Rule.{InstructionsKeepTheRule, TicksKeepTheRule, RulesDifferWhereAsked}
+use Rattle.snapshot.specs.Snapshot.{OldSnapshotsReadUnchanged}
 use Rattle.source.specs.Bench.{BenchOnTheRust, FreshCoresAreSound}
 use Rattle.manual.specs.Witnesses.{Agreements}
 use Rattle.table.specs.Calls.{TickCallsWriteTheNextCore, RunCallsWriteTheLastCore}
@@ -32,8 +34,14 @@ pub record Claims : Type 0 where
   -- crates/source/specs/Bench.antt: 01's bench sheet on the Rust's definition
   pub bench-on-the-rust : BenchOnTheRust
   pub fresh-cores : FreshCoresAreSound
-  -- crates/manual/specs/Witnesses.antt: the waits of POP and PUSH, by the manual with every switch off
+  -- crates/manual/specs/Witnesses.antt: the waits of POP and PUSH, and ADIW under chip, by the manual with every switch off
   pub agreements : Agreements
+  -- crates/invariants/specs/Rule.antt: the rule, source or chip: nothing changes it, and ADIW alone asks for it
+  pub instructions-rule : InstructionsKeepTheRule
+  pub ticks-rule : TicksKeepTheRule
+  pub rules-differ : RulesDifferWhereAsked
+  -- crates/snapshot/specs/Snapshot.antt: what read before there was a rule reads the same, with rule source
+  pub old-snapshots : OldSnapshotsReadUnchanged
   -- crates/hex/specs/Answers.antt: HEX files, each of 02's numbers 50 to 57 exactly where its condition holds, and at which line
   pub hex-numbers : EachNumberExactly
   -- crates/hex/specs/Promises.antt: what the writer made is given back; refused, nothing changes; no byte is named twice; what each byte then is; how long a text is

@@ -12,7 +12,7 @@ use Rattle.manual.specs.Statement.{EqualsTheManual, EqualsBySwitches, AdiwAlone
 use Rattle.manual.specs.Witnesses.{Witnesses}
 use Rattle.promises.specs.OneOutcome.{OneOutcome}
 use Rattle.promises.specs.BenchSheet.{BenchSheet}
-use Rattle.promises.specs.Interrupts.{InterruptsLeaveNoTrace, NoTraceAtTheEnd, ThreeWaitsAfterReti}
+use Rattle.promises.specs.Interrupts.{InterruptsLeaveNoTrace, NoTraceAtTheEnd, RunsKeepTheRule, ThreeWaitsAfterReti}
 use Rattle.promises.specs.Stamps.{StampsInOrder, FlagLost}
 
 -- 1. "Every core, program, data memory and vector offer gets one answer from 01. A refused tick is named and changes neither core nor data."
@@ -36,11 +36,12 @@ pub record Demand1 : Type 1 where
   -- crates/snapshot/specs/Snapshot.antt
   pub reading-undoes-writing : ReadingUndoesWriting
   pub writing-undoes-reading : WritingUndoesReading
-  -- BenchSheet.antt: 01's thirteen lines
+  -- BenchSheet.antt: 01's thirteen lines, and 02's
   pub bench-sheet : BenchSheet
 
 -- 2. "Each tick from a core with busy at most 4 equals the Rust over 01's flat memories wherever a debug build of it would not panic, and equals a definition written
 -- from the AVR Instruction Set Manual, the listed differences apart. A run equals such ticks one after another, as 01 defines it, its count included."
+-- 02, W2: "From here on demand 2 means the Rust under source, and under chip the manual with the differences that remain listed for it".
 pub record Demand2 : Type 0 where
   -- crates/source_decode/specs/RustDecode.antt, crates/source/specs/Statement.antt
   pub rust-decode : DecodesAsTheRust
@@ -51,7 +52,7 @@ pub record Demand2 : Type 0 where
   -- crates/manual_opcodes/specs/Opcodes.antt, crates/manual/specs/Statement.antt
   pub manual-opcodes : DecodesAsTheManual
   pub manual : EqualsTheManual
-  -- its listed differences, each alone
+  -- its listed differences, each alone, under source and under chip
   pub switches : EqualsBySwitches
   pub adiw : AdiwAlone
   pub loads : LoadsAlone
@@ -62,7 +63,7 @@ pub record Demand2 : Type 0 where
   pub end : EndAlone
   pub target : TargetAlone
   pub pointers : PointersAlone
-  -- and the manual itself, off the list
+  -- and the manual itself, off the list of those that remain under the rule
   pub unless-listed : EqualsUnlessListed
   -- crates/manual/specs/Witnesses.antt
   pub witnesses : Witnesses
@@ -78,6 +79,7 @@ pub record Demand3 : Type 0 where
   -- Interrupts.antt
   pub no-trace : InterruptsLeaveNoTrace
   pub no-trace-at-the-end : NoTraceAtTheEnd
+  pub rule : RunsKeepTheRule
   pub three-waits : ThreeWaitsAfterReti
   -- Stamps.antt: the two time stamps of the story, an interrupt between CP and CPC; and what a handler that loses a flag does to them
   pub stamps : StampsInOrder

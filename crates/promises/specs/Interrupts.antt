@@ -5,8 +5,8 @@
 -- that, wherever it comes, as long as each handler puts back what it touched.
 --
 -- The stretch is n consecutive words of program, from where PC stands, each an instruction of 01's register-only list, ending at PC 65,535 or before.
--- The core is neither busy nor in service at its start; all else is as it may be: registers, SREG, SP, data, and inhibit set or clear. Instructions
--- of the stretch may set and clear any flag, I too.
+-- The core is neither busy nor in service at its start; all else is as it may be: registers, SREG, SP, data, inhibit set or clear, and the rule, source or chip.
+-- Instructions of the stretch may set and clear any flag, I too.
 -- Two runs begin there. One is offered what one likes, at each tick a vector or none. The plain run is offered none. A run is at the end when PC stands
 -- behind the stretch and the core is neither busy nor in service; the two are there first after `long` and after `short` ticks.
 --
@@ -164,6 +164,10 @@ InterruptsLeaveNoTrace = (p : List ℕ) (s : State) (n : ℕ) (v : Offers) → A
 -- a run that gets to the end after so many ticks shows no trace there, whatever comes later
 abbrev pub NoTraceAtTheEnd : Type 0
 NoTraceAtTheEnd = (p : List ℕ) (s : State) (n : ℕ) (v : Offers) (long : ℕ) → AssumedTo p s n v long → (short : ℕ) × NoTrace p s n v long short
+
+-- ---- 02, W2: "demand 3 holds under each, and its two runs use the same choice". A run keeps the rule of the core that it begins with, and both begin with the same core
+abbrev pub RunsKeepTheRule : Type 0
+RunsKeepTheRule = (p : List ℕ) (s : State) (v : Offers) (j : ℕ) → after p s v j .core .chip ≡ s .core .chip
 
 -- ---- and the third wait after a RETI is at the third tick after it, where the count of a handler's ticks ends
 abbrev pub ThreeWaitsAfterReti : Type 0

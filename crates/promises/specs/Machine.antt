@@ -15,6 +15,7 @@ pub record Machine : Type 1 where
   pub Offer : Type 0
   -- registers and SREG
   pub Kept : Type 0
+  pub Rule : Type 0
   -- no vector
   pub none : Offer
   pub tick : Offer → State → State
@@ -30,10 +31,11 @@ pub record Machine : Type 1 where
   pub busy : State → ℕ
   pub inhibit : State → Bool
   pub service : State → Bool
+  pub rule : State → Rule
   pub bytes : State → List ℕ
 
 module _ (M : Machine) where
-  open Machine M using (State, Offer, Kept, none, tick, Allowed, Plain, enters, returns, kept, pc, sp, busy, inhibit, service, bytes)
+  open Machine M using (State, Offer, Kept, Rule, none, tick, Allowed, Plain, enters, returns, kept, pc, sp, busy, inhibit, service, rule, bytes)
 
   -- ---- a run from s under the offers v
   abbrev pub after : (ℕ → Offer) → State → ℕ → State
@@ -126,14 +128,16 @@ module _ (M : Machine) where
     pub free : service s ≡ false
 
   pub record Laws (start finish : ℕ) : Type 0 where
-    -- what the instruction at a PC of the stretch does to registers and SREG, and the waits after it
-    pub does : ℕ → Kept → Kept
-    pub cost : ℕ → ℕ
-    pub cheap : (x : ℕ) → start ≤ x → x < finish → cost x ≤ 1
+    -- what the instruction at a PC of the stretch does to registers and SREG under a rule, and the waits after it
+    pub does : Rule → ℕ → Kept → Kept
+    pub cost : Rule → ℕ → ℕ
+    pub cheap : (c : Rule) (x : ℕ) → start ≤ x → x < finish → cost c x ≤ 1
+    -- no tick changes the rule
+    pub ruled : (o : Offer) (s : State) → rule (tick o s) ≡ rule s
     pub wait : (o : Offer) (s : State) (b : ℕ) → busy s ≡ suc b → b < 4 → (Plain o s) × (enters o s ≡ false) × Waits s (tick o s) b
     -- with no offer the stretch runs; with any, it does the same at a tick that does not enter
     pub calm : (s : State) → InStretch start finish s → (Plain none s) × (Allowed none s) × (enters none s ≡ false)
-    pub run : (o : Offer) (s : State) → InStretch start finish s → Allowed o s → enters o s ≡ false → Runs s (tick o s) (does (pc s) (kept s)) (cost (pc s))
+    pub run : (o : Offer) (s : State) → InStretch start finish s → Allowed o s → enters o s ≡ false → Runs s (tick o s) (does (rule s) (pc s) (kept s)) (cost (rule s) (pc s))
     pub enter : (o : Offer) (s : State) → enters o s ≡ true → Enters s (tick o s)
     -- nothing enters while inhibit is set, or in service
     pub inhibited : (o : Offer) (s : State) → inhibit s ≡ true → enters o s ≡ false

@@ -17,12 +17,12 @@ fn word(high: u8, low: u8) -> u16
     high as u16 * 256 + low as u16
 }
 
-// busy 3 bits, inhibit, in-service, three zero bits.
-fn last_byte(busy: u8, inhibit: bool, service: bool) -> u8
+// busy 3 bits, inhibit, in-service, the rule, two zero bits.
+fn last_byte(busy: u8, inhibit: bool, service: bool, chip: bool) -> u8
     requires { ⌜ busy ≤ 4 ⌝ }
-    ensures { λ r. ⌜ r ≡ busy * 32 + one inhibit * 16 + one service * 8 ⌝ }
+    ensures { λ r. ⌜ r ≡ busy * 32 + one inhibit * 16 + one service * 8 + one chip * 4 ⌝ }
 {
-    busy * 32 + inhibit as u8 * 16 + service as u8 * 8
+    busy * 32 + inhibit as u8 * 16 + service as u8 * 8 + chip as u8 * 4
 }
 
 fn bytes_of(core: Core) -> [u8; 38]
@@ -41,7 +41,7 @@ fn bytes_of(core: Core) -> [u8; 38]
     out[34] = (core.pc % 256) as u8;
     out[35] = (core.sp / 256) as u8;
     out[36] = (core.sp % 256) as u8;
-    out[37] = last_byte(core.busy, core.inhibit, core.in_service);
+    out[37] = last_byte(core.busy, core.inhibit, core.in_service, core.chip);
     out
 }
 
@@ -64,6 +64,7 @@ fn core_of(bytes: &[u8]) -> Core
         busy: last / 32,
         inhibit: last / 16 % 2 == 1,
         in_service: last / 8 % 2 == 1,
+        chip: last / 4 % 2 == 1,
     }
 }
 
@@ -96,7 +97,7 @@ pub fn read(bytes: &[u8]) -> SnapshotRead
     if bytes[37] / 32 > 4 {
         return refused(8);
     }
-    if bytes[37] % 8 != 0 {
+    if bytes[37] % 4 != 0 {
         return refused(9);
     }
     SnapshotRead {

@@ -1,6 +1,7 @@
 -- adc to subi of the Rust are the port's, but for products and differences. No handler here panics.
 -- Assumes nothing.
 use mathlib.Core.Path.{_≡_}
+use mathlib.Core.Bool.{false}
 use Prim.Native.Nat.{ℕ, _+_, _%_, _-_, _<_}
 use native.Mathlib.Omega.{arith}
 use native.Mathlib.Nat.{add-zero}
@@ -65,13 +66,14 @@ module _ (s : Self) (w : Sound (s .core)) where
         over-add (leb 128 a) (leb 128 b) (leb 128 x),
       )
 
-  pub adiw-is : (d K : ℕ) → d < 31 → adiw d K s ≡ leaves s (adiwOf (s .core) d K)
+  -- under source
+  pub adiw-is : s .core .chip ≡ false → (d K : ℕ) → d < 31 → adiw d K s ≡ leaves s (adiwOf (s .core) d K)
   unfolding adiw withReg withBusy
-  adiw-is d K hd =
+  adiw-is c d K hd =
       let e = w .count in
       let g = w .sreg-lt in
       let a = word (s .core) d in
-      rw (get-word-ok, set-word-ok, cznvs-ok, bit15 ((a + K) % 65536) (omega arith), low7 a)
+      rw (get-word-ok, set-word-ok, cznvs-ok, bit15 ((a + K) % 65536) (omega arith), low7 a, c)
 
   -- ---- AND, ANDI, EOR, OR, ORI
   pub and-is : (d r : ℕ) → d < 32 → r < 32 → and d r s ≡ leaves s (andOf (s .core) d (reg (s .core) r))

@@ -35,14 +35,14 @@ pair-lt d h = let l = h .0 in let e = h .1 in omega arith
 abbrev pub done : Self → Executed → Outcome Bool
 done s e = ok (not (stops (answerOf (e .done)))) (withOut s (out (e .core) (e .bytes)))
 
-module _ (s : Self) (w : Sound (s .core)) (m : Bytes (s .ds)) (u : Bytes (s .progmem)) where
+module _ (s : Self) (c : s .core .chip ≡ false) (w : Sound (s .core)) (m : Bytes (s .ds)) (u : Bytes (s .progmem)) where
   pub dispatch-is : (op : Instruction) → InFields op
       → dispatch op s ≡ pick (met (needs decodeOf (s .core) op (s .progmem) (s .ds))) (done s (executed decodeOf (s .core) op (s .progmem) (s .ds))) panic
   unfolding dispatch
   -- Arithmetic and Logic Instructions
   dispatch-is (ADC d r) v = rw (adc-is s w d r (v .0) (v .1))
   dispatch-is (ADD d r) v = rw (add-is s w d r (v .0) (v .1))
-  dispatch-is (ADIW d K) v = rw (adiw-is s w d K (pair-lt d (v .0)))
+  dispatch-is (ADIW d K) v = rw (adiw-is s w c d K (pair-lt d (v .0)))
   dispatch-is (AND d r) v = rw (and-is s w d r (v .0) (v .1))
   dispatch-is (ANDI d K) v = rw (andi-is s w d K (v .0) (v .1))
   dispatch-is (COM d) v = rw (com-is s w d v)

@@ -62,24 +62,24 @@ matches-by s t true e low = record { refused = e; from-1 = low e .0; to-4 = low 
 matches-by s t false e low = record { not-refused = e; bool = refl; core = refl; bytes = refl }
 
 pub equals-the-rust : EqualsTheRust
-equals-the-rust k p m o w bp bm =
+equals-the-rust k p m o c w bp bm =
     let s = selfOf k p m o in
     let t = tickOf k p m o in
-    rw (tick-is s w bm bp) (matches-by s t (refuses (t .answer)) refl (ticked-low k p m o (ltb 0 (k .busy)) refl (w .busy-le)))
+    rw (tick-is s c w bm bp) (matches-by s t (refuses (t .answer)) refl (ticked-low k p m o (ltb 0 (k .busy)) refl (w .busy-le)))
 
 panics-by : (s : Self) (t : Tick) (r : Bool) → r ≡ panics (pick r panic (shown s t))
 panics-by s t true = refl
 panics-by s t false = refl
 
 pub refused-exactly-where-it-panics : RefusedExactlyWhereItPanics
-refused-exactly-where-it-panics k p m o w bp bm =
+refused-exactly-where-it-panics k p m o c w bp bm =
     let s = selfOf k p m o in
     let t = tickOf k p m o in
-    rw (tick-is s w bm bp) (panics-by s t (refuses (t .answer)))
+    rw (tick-is s c w bm bp) (panics-by s t (refuses (t .answer)))
 
 -- ---- of the code: what meets the contract is that tick
 pub code-equals-the-rust : CodeEqualsTheRust
-code-equals-the-rust k p m o r n w bp bm c = rw (c .answer, c .core, c .bytes) (equals-the-rust k p m o w bp bm)
+code-equals-the-rust k p m o r n c w bp bm met = rw (met .answer, met .core, met .bytes) (equals-the-rust k p m o c w bp bm)
 
 pub in-place-equals-the-rust : InPlaceEqualsTheRust
-in-place-equals-the-rust k p m o a j n w bp bm c = code-equals-the-rust k p m o (inPlace a j) n w bp bm c
+in-place-equals-the-rust k p m o a j n c w bp bm met = code-equals-the-rust k p m o (inPlace a j) n c w bp bm met

@@ -104,7 +104,7 @@ behind-sound k w h =
     let l = w .pc-lt in
     record { count = w .count; reg-lt = w .reg-lt; sreg-lt = w .sreg-lt; pc-lt = omega arith; sp-lt = w .sp-lt; busy-le = w .busy-le }
 
-module _ (s : Self) (w : Sound (s .core)) (m : Bytes (s .ds)) (q : Bytes (s .progmem)) where
+module _ (s : Self) (c : s .core .chip ≡ false) (w : Sound (s .core)) (m : Bytes (s .ds)) (q : Bytes (s .progmem)) where
   execute-step : eqb (s .core .pc) 65535 ≡ false
       → execute (withCore s (withInhibit (s .core) false)) ≡ seen s (stepped decodeOf (s .core) (withInhibit (s .core) false) (s .progmem) (s .ds))
   unfolding execute stepped withInhibit withPc
@@ -120,7 +120,7 @@ module _ (s : Self) (w : Sound (s .core)) (m : Bytes (s .ds)) (q : Bytes (s .pro
         fetch-is (withCore s (withInhibit (s .core) false)) q false e,
         after-pick,
         lt-ltb (pc + 1) 65536 (omega arith),
-        dispatch-is (behind s) (behind-sound (s .core) w g) m q op (op-in (s .progmem) pc q),
+        dispatch-is (behind s) c (behind-sound (s .core) w g) m q op (op-in (s .progmem) pc q),
         and-pick f (met n),
         ← and-assoc f (n .program),
       )

@@ -32,10 +32,10 @@ registers-by-the-table k r v = (
 -- ---- snapshots
 module _ (s : List ℕ) where
   pub by-checks : {X : Type 0} → (of38 s ≡ false → X) → (of38 s ≡ true → ltb 4 (getD s 37 0 / 32) ≡ true → X)
-      → (of38 s ≡ true → ltb 4 (getD s 37 0 / 32) ≡ false → eqb (getD s 37 0 % 8) 0 ≡ false → X)
-      → (of38 s ≡ true → ltb 4 (getD s 37 0 / 32) ≡ false → eqb (getD s 37 0 % 8) 0 ≡ true → X) → X
+      → (of38 s ≡ true → ltb 4 (getD s 37 0 / 32) ≡ false → eqb (getD s 37 0 % 4) 0 ≡ false → X)
+      → (of38 s ≡ true → ltb 4 (getD s 37 0 / 32) ≡ false → eqb (getD s 37 0 % 4) 0 ≡ true → X) → X
   by-checks short busy spare fine =
-      test (of38 s) (λ w. test (ltb 4 (getD s 37 0 / 32)) (busy w) λ b. test (eqb (getD s 37 0 % 8) 0) (fine w b) (spare w b)) short
+      test (of38 s) (λ w. test (ltb 4 (getD s 37 0 / 32)) (busy w) λ b. test (eqb (getD s 37 0 % 4) 0) (fine w b) (spare w b)) short
 
 pub writes-by-the-table : WritesByTheTable
 writes-by-the-table k s = (

@@ -41,7 +41,7 @@ module _ (s : List ℕ) (offer a : ℕ) (l : List (ℕ × Bool)) where
       → Fits a ((10, false) ∷ (7, false) ∷ (8, false) ∷ (9, false) ∷ onlyIf true l)
   behind t f g h r = let z : 0 + (0 + (0 + (0 + holding l))) ≡ holding l = omega arith in rw (always l, t, f, g, h, z) r
 
-  passed : ltb 65536 offer ≡ false → of38 s ≡ true → ltb 4 (getD s 37 0 / 32) ≡ false → eqb (getD s 37 0 % 8) 0 ≡ true
+  passed : ltb 65536 offer ≡ false → of38 s ≡ true → ltb 4 (getD s 37 0 / 32) ≡ false → eqb (getD s 37 0 % 4) 0 ≡ true
       → Fits a ((10, false) ∷ (7, false) ∷ (8, false) ∷ (9, false) ∷ onlyIf true l) → Fits a (checkRows s offer l)
   passed o w b z t = rw (o, w, b, z) t
 
@@ -57,7 +57,7 @@ module _ (s p m : List ℕ) (offer : ℕ) where
   abbrev number : ℕ
   number = numberOf (tickOf core p m (offerOf offer) .answer)
 
-  called : ltb 65536 offer ≡ false → of38 s ≡ true → ltb 4 (getD s 37 0 / 32) ≡ false → eqb (getD s 37 0 % 8) 0 ≡ true
+  called : ltb 65536 offer ≡ false → of38 s ≡ true → ltb 4 (getD s 37 0 / 32) ≡ false → eqb (getD s 37 0 % 4) 0 ≡ true
       → avrTickOf s p m offer ≡ told number (writeOf (tickOf core p m (offerOf offer) .core) s .bytes) (tickOf core p m (offerOf offer) .bytes)
   unfolding avrTickOf
   called o w b z = let r : readOf s ≡ record { refusal = 0; core = core } = rw (w, b, z) refl in rw (o, r) refl
@@ -72,7 +72,7 @@ module _ (s p m : List ℕ) (offer : ℕ) where
     pc-lt = rw (pc-read s) (omega (arith, h .byte-lt 33, h .byte-lt 34))
 
     -- what was read is written back
-    unchanged : of38 s ≡ true → ltb 4 (getD s 37 0 / 32) ≡ false → eqb (getD s 37 0 % 8) 0 ≡ true → writeOf core s .bytes ≡ s
+    unchanged : of38 s ≡ true → ltb 4 (getD s 37 0 / 32) ≡ false → eqb (getD s 37 0 % 4) 0 ≡ true → writeOf core s .bytes ≡ s
     unchanged w b z =
         let r : readOf s ≡ record { refusal = 0; core = core } = rw (w, b, z) refl in
         let back : bytesOf (readOf s .core) ≡ s = bytes-back s h (ap (λ (x : SnapshotRead). x .refusal) r) in
@@ -112,7 +112,7 @@ refused-tick-calls-change-nothing s p m offer h =
     λ o. by-checks s (λ w. rw (o, w) (λ l. refl)) (λ w b. rw (o, w, b) (λ l. refl)) (λ w b z. rw (o, w, b, z) (λ l. refl))
     λ w b z. rw (called s p m offer o w b z) (tick-refused w b z)
   where
-    tick-refused : of38 s ≡ true → ltb 4 (getD s 37 0 / 32) ≡ false → eqb (getD s 37 0 % 8) 0 ≡ true → number s p m offer < 16
+    tick-refused : of38 s ≡ true → ltb 4 (getD s 37 0 / 32) ≡ false → eqb (getD s 37 0 % 4) 0 ≡ true → number s p m offer < 16
         → told (number s p m offer) (writeOf (tickOf (coreOf s) p m (offerOf offer) .core) s .bytes) (tickOf (coreOf s) p m (offerOf offer) .bytes)
         ≡ told (number s p m offer) s m
     tick-refused w b z l =

@@ -38,15 +38,15 @@ writeRows k s = (7, not (of38 s)) ∷ (5, of38 s && ltb 4 (k .busy)) ∷ (0, of3
 abbrev pub WritesByTheTable : Type 0
 WritesByTheTable = (k : Core) (s : List ℕ) → Given (writeOf k s .refusal) (writeRows k s) × ((writeOf k s .refusal ≡ 0 → ⊥) → writeOf k s .bytes ≡ s)
 
--- ---- "7, 8, 9 refused: snapshot not 38 bytes; busy field above 4; spare bits not zero", in that order
+-- ---- "7, 8, 9 refused: snapshot not 38 bytes; busy field above 4; spare bits not zero", in that order; 02, W2: "9 now covers the two remaining spare bits"
 abbrev pub lowBusy : List ℕ → Bool
 lowBusy s = of38 s && not (ltb 4 (getD s 37 0 / 32))
 
 abbrev pub readable : List ℕ → Bool
-readable s = lowBusy s && eqb (getD s 37 0 % 8) 0
+readable s = lowBusy s && eqb (getD s 37 0 % 4) 0
 
 abbrev pub snapshotRows : List ℕ → List (ℕ × Bool)
-snapshotRows s = (7, not (of38 s)) ∷ (8, of38 s && ltb 4 (getD s 37 0 / 32)) ∷ (9, lowBusy s && not (eqb (getD s 37 0 % 8) 0)) ∷ []
+snapshotRows s = (7, not (of38 s)) ∷ (8, of38 s && ltb 4 (getD s 37 0 / 32)) ∷ (9, lowBusy s && not (eqb (getD s 37 0 % 4) 0)) ∷ []
 
 abbrev pub readRows : List ℕ → List (ℕ × Bool)
 readRows s = (0, readable s) ∷ snapshotRows s

@@ -1,10 +1,11 @@
 -- `bytes_of`: the registers copied, then six bytes.
 -- Assumes nothing.
 use mathlib.Core.Path.{_≡_}
-use Prim.Native.Nat.{_≤_, _-_, _/_, _%_}
+use Prim.Native.Nat.{_+_, _*_, _≤_, _-_, _/_, _%_}
 use native.Mathlib.Omega.{arith}
 use lib.ListN.{replicate}
 use borrow.Author.Needs.{needs}
+use Rattle.basis.specs.Bit.{one}
 use Rattle.snapshot.proofs.Copies.{over, copied, filled}
 use Rattle.snapshot.proofs.bytes_of.Statement.{statement}
 use Rattle.snapshot.proofs.bytes_of.Tie as tie
@@ -41,4 +42,5 @@ bytes-of-spec =
     (λ c. let k = c .before .before .before .before .before .before .before .before .args .core in
     let l = c .before .before .before .before .before .before .loop in
     let e : l .i ≡ 32 = omega (arith, l .inv .0, c .before .before .before .before .before .loop-test .left) in
-    rw (c .last-byte .ensures, l .inv .1, e) (filled (k .regs) (k .sreg) (k .pc / 256) (k .pc % 256) (k .sp / 256) (k .sp % 256) _ (search needs))))
+    let last = k .busy * 32 + one (k .inhibit) * 16 + one (k .«in_service») * 8 + one (k .chip) * 4 in
+    rw (c .last-byte .ensures, l .inv .1, e) (filled (k .regs) (k .sreg) (k .pc / 256) (k .pc % 256) (k .sp / 256) (k .sp % 256) last (search needs))))

@@ -5,7 +5,7 @@ use Prim.Native.Nat.{_≤_, _-_}
 use native.Mathlib.Omega.{arith}
 use lib.ListN.{replicate}
 use borrow.Author.Needs.{needs}
-use Rattle.cores.specs.State.{freshOf, withRegs, withPc, withBusy, withInhibit, withService}
+use Rattle.cores.specs.State.{freshOf, withRegs, withPc, withBusy, withInhibit, withService, withChip}
 use Rattle.snapshot.proofs.Copies.{over, copied, whole}
 use Rattle.snapshot.proofs.core_of.Statement.{statement}
 use Rattle.snapshot.proofs.core_of.Tie as tie
@@ -17,7 +17,7 @@ abbrev μ-loop : tie.MeasureT-loop
 μ-loop bytes regs₀ i₀ regs i = 32 - i
 
 pub core-of-spec : {M : Type 1} → statement M
-unfolding freshOf withRegs withPc withBusy withInhibit withService
+unfolding freshOf withRegs withPc withBusy withInhibit withService withChip
 core-of-spec =
     tie.close
     (tie.spec

@@ -1,4 +1,4 @@
--- `last_byte`: 4 times 32, 16 and 8 fit a byte.
+-- `last_byte`: 4 times 32, 16, 8 and 4 fit a byte.
 -- Assumes nothing.
 use native.Mathlib.Omega.{arith}
 use borrow.Author.Needs.{needs}
@@ -17,4 +17,7 @@ last-byte-spec =
     (λ c. search needs)
     (λ c. omega (arith, one-le (c .args .service)))
     (λ c. omega (arith, one-le (c .args .inhibit), one-le (c .args .service)))
+    (λ c. search needs)
+    (λ c. omega (arith, one-le (c .args .chip)))
+    (λ c. omega (arith, one-le (c .args .inhibit), one-le (c .args .service), one-le (c .args .chip)))
     (λ c. search needs))

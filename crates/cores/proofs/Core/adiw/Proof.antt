@@ -14,4 +14,5 @@ adiw-spec =
     (λ c κs. search needs)
     (λ c κs. search needs)
     (λ c κs. search needs)
-    (λ c. rw (c .set-cznvs .ensures, c .before .before .set-register-word .ensures, c .before .before .before .before .plus-word .ensures, c .before .before .before .before .before .get-register-word .ensures)))
+    (λ c κs. search needs)
+    (λ c. rw (c .set-cznvs .ensures, c .before .before .set-register-word .ensures, c .before .before .before .old-bit-clear .ensures, c .before .before .before .before .before .plus-word .ensures, c .before .before .before .before .before .before .get-register-word .ensures)))
