@@ -20,6 +20,11 @@
 
 #define AVR_SNAPSHOT_BYTES 38
 #define AVR_NO_OFFER 65536u
+/* The rule of the core in a snapshot: chip where this bit of this byte is set, source where it is clear, as in a snapshot of zeros and in every one written before there was a rule.
+ * `snapshot[AVR_RULE_BYTE] |= AVR_RULE_CHIP` sets chip, `snapshot[AVR_RULE_BYTE] &= (uint8_t)~AVR_RULE_CHIP` source; no call changes it.
+ * Under source ADIW's V is that of the Rust which was ported, under chip the AVR manual's, and S with it. Nothing else differs. */
+#define AVR_RULE_BYTE 37
+#define AVR_RULE_CHIP 0x04u
 /* The bytes of the HEX text of a program of `n` bytes, the room that avr_hex_write needs. */
 #define AVR_HEX_BYTES(n) ((size_t)(n) * 2 + ((size_t)(n) + 15) / 16 * 12 + 12)
 

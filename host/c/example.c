@@ -1,4 +1,5 @@
-/* Runs document 01's example through the C interface, writes it as a HEX file and reads that back; fails where an answer is not the one that the documents name. */
+/* Runs document 01's example through the C interface, writes it as a HEX file and reads that back, and runs line 2 of 01's bench sheet under both rules; fails where an
+ * answer is not the one that the documents name. */
 #include "avr_core.h"
 #include <stdio.h>
 #include <string.h>
@@ -30,6 +31,25 @@ static int writes_and_reads(void) {
     return avr_hex_read(text, written, back, sizeof back, &line) == 52 && line == 1 && memcmp(back, program, sizeof back) == 0;
 }
 
+/* The core in the snapshot takes ADIW R25:R24,1 on 0x8001 from SREG 0. */
+static int leaves_sreg(uint8_t snapshot[AVR_SNAPSHOT_BYTES], uint8_t sreg) {
+    static const uint8_t adiw[] = {0x01, 0x96};
+    uint8_t data[1] = {0}, rule = snapshot[AVR_RULE_BYTE] & AVR_RULE_CHIP;
+    snapshot[24] = 0x01;
+    snapshot[25] = 0x80;
+    if (avr_tick(snapshot, AVR_SNAPSHOT_BYTES, adiw, sizeof adiw, data, sizeof data, AVR_NO_OFFER) != 18) return 0;
+    printf("%s: SREG %02X\n", rule ? "chip" : "source", snapshot[32]);
+    return snapshot[24] == 0x02 && snapshot[25] == 0x80 && snapshot[32] == sreg && (snapshot[AVR_RULE_BYTE] & AVR_RULE_CHIP) == rule;
+}
+
+static int goes_by_the_rule(void) {
+    uint8_t source[AVR_SNAPSHOT_BYTES] = {0}, chip[AVR_SNAPSHOT_BYTES] = {0}, again[AVR_SNAPSHOT_BYTES] = {0};
+    chip[AVR_RULE_BYTE] |= AVR_RULE_CHIP;
+    again[AVR_RULE_BYTE] |= AVR_RULE_CHIP;
+    again[AVR_RULE_BYTE] &= (uint8_t)~AVR_RULE_CHIP;
+    return leaves_sreg(source, 0x0C) && leaves_sreg(chip, 0x14) && leaves_sreg(again, 0x0C); /* N V, N S */
+}
+
 int main(void) {
-    return ticks_and_runs() && writes_and_reads() ? 0 : 1;
+    return ticks_and_runs() && writes_and_reads() && goes_by_the_rule() ? 0 : 1;
 }
