@@ -42,6 +42,10 @@ try_first() { # PROGRAM: README's first program on its file, on one with a wrong
     note $? "$1 on no file"
 }
 
+says_both_rules() { # COMMAND...: prints ADIW's SREG under each rule
+    [ "$("$@")" = "$(printf 'source: SREG 0C\nchip: SREG 14')" ]
+}
+
 says_what_to_run() { # host/rust, with no archive, names the command that writes it
     said=$(AVR_CORE_LIB=$work/nowhere "$cargo" build --quiet --offline --release $target --manifest-path host/rust/Cargo.toml --target-dir target/cargo 2>&1)
     [ $? != 0 ] && echo "$said" | grep -q 'run `rt staticlib host`'
@@ -86,6 +90,7 @@ if can_link host/rust "$cargo" "$cc"; then
     with_cargo host/rust test
     with_cargo host/rust build --examples
     try_first "$built/examples/first"
+    quietly "$built/examples/rules" says_both_rules $emulator "$built/examples/rules"
     runs_nothing 'refused-57' $emulator "$built/examples/to_hex" <"$work/bytes"
     note $? 'to_hex on too long a program'
 fi

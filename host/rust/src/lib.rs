@@ -1,6 +1,10 @@
 //! A safe door to the proved AVR core of crates/host. Every input is taken: what is wrong is refused with its number.
 
-/// The bytes of a snapshot: R0 to R31, SREG, PC, SP, busy 3 bits, inhibit, in-service, three zero bits.
+mod snapshot;
+
+pub use snapshot::{Rule, Snapshot};
+
+/// The bytes of a snapshot: R0 to R31, SREG, PC, SP, busy 3 bits, inhibit, in-service, the rule (1 is chip), two zero bits. `Snapshot` has them by name.
 pub const SNAPSHOT_BYTES: usize = 38;
 
 /// The offer that offers nothing.
