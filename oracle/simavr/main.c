@@ -1,5 +1,5 @@
-/* Holds the port against simavr: every arithmetic instruction, all operands, registers and SREG after one instruction.
- * The port keeps the Rust's V of ADIW (docs/DIFFERENCES.md); it may differ there, and in S with it, and nowhere else. */
+/* Holds the port against simavr, under source and again under chip: every arithmetic instruction, all operands, registers and SREG after one instruction.
+ * Under source the port keeps the Rust's V of ADIW (docs/DIFFERENCES.md); it may differ there, and in S with it, and nowhere else. Under chip it may not differ at all. */
 #include "instructions.h"
 #include <stdio.h>
 #include <string.h>
@@ -9,6 +9,7 @@
 #define SREGS 8
 
 struct tally {
+    enum rule rule;
     uint64_t cases, known, other;
 };
 
@@ -22,7 +23,7 @@ static struct state filled(uint8_t sreg) {
     return state;
 }
 
-/* Whether the two differ in ADIW's V and S alone, as bit 7 in the place of bit 15 of the old word makes them. */
+/* Whether the two differ in ADIW's V and S alone, as bit 7 in the place of bit 15 of the old word makes them; asked under source alone. */
 static int is_known(const struct instruction *instruction, uint32_t old, const struct state *port, const struct state *simavr) {
     if (strcmp(instruction->name, "ADIW") != 0 || memcmp(port->registers, simavr->registers, 32) != 0) return 0;
     int negative = port->registers[25] >= 0x80;
@@ -46,16 +47,17 @@ static void compare(const struct instruction *instruction, uint32_t first, uint3
     struct state states[3] = {filled(sreg)};
     put_operands(&states[0], instruction->form, first, second);
     states[1] = states[2] = states[0];
-    port_step(&states[1], word);
+    port_step(&states[1], word, tally->rule);
     simavr_step(&states[2], word);
     tally->cases++;
     if (memcmp(&states[1], &states[2], sizeof states[1]) == 0) return;
-    uint64_t *count = is_known(instruction, first, &states[1], &states[2]) ? &tally->known : &tally->other;
+    int known = tally->rule == SOURCE && is_known(instruction, first, &states[1], &states[2]);
+    uint64_t *count = known ? &tally->known : &tally->other;
     if ((*count)++ == 0) show(instruction, first, second, states);
 }
 
-static struct tally compare_all(const struct instruction *instruction) {
-    struct tally tally = {0, 0, 0};
+static struct tally compare_all(const struct instruction *instruction, enum rule rule) {
+    struct tally tally = {rule, 0, 0, 0};
     for (uint32_t first = 0; first < first_values(instruction->form); first++)
         for (uint32_t second = 0; second < second_values(instruction->form); second++)
             for (unsigned choice = 0; choice < SREGS; choice++)
@@ -63,15 +65,24 @@ static struct tally compare_all(const struct instruction *instruction) {
     return tally;
 }
 
-int main(void) {
-    struct tally all = {0, 0, 0};
+static void print(const char *name, const struct tally *tally) {
+    printf("%-10s %9llu cases, %llu differ in ADIW's V and S, %llu differ otherwise\n", name, (unsigned long long)tally->cases,
+           (unsigned long long)tally->known, (unsigned long long)tally->other);
+}
+
+/* Whether nothing differs but what is known. */
+static int agrees(enum rule rule) {
+    struct tally all = {rule, 0, 0, 0};
     for (unsigned i = 0; i < instruction_count; i++) {
-        struct tally tally = compare_all(&instructions[i]);
-        printf("%-10s %9llu cases, %llu differ in ADIW's V and S, %llu differ otherwise\n", instructions[i].name, (unsigned long long)tally.cases,
-               (unsigned long long)tally.known, (unsigned long long)tally.other);
+        struct tally tally = compare_all(&instructions[i], rule);
+        print(instructions[i].name, &tally);
         all.cases += tally.cases, all.known += tally.known, all.other += tally.other;
     }
-    printf("%llu cases, %llu differ in ADIW's V and S, %llu differ otherwise\n", (unsigned long long)all.cases, (unsigned long long)all.known,
-           (unsigned long long)all.other);
-    return all.other != 0;
+    print(rule == CHIP ? "chip:" : "source:", &all);
+    return all.other == 0;
+}
+
+int main(void) {
+    int source = agrees(SOURCE), chip = agrees(CHIP);
+    return source && chip ? 0 : 1;
 }

@@ -9,8 +9,11 @@ struct state {
     uint8_t sreg;
 };
 
-/* Each leaves in *state what the instruction `word` makes of it, and stops the program where its core did not execute it. */
+/* The port's rule. */
+enum rule { SOURCE, CHIP };
+
+/* Each leaves in *state what the instruction `word` makes of it, and stops the program where its core did not execute it; the port also where its rule changed. */
 void simavr_step(struct state *state, uint16_t word);
-void port_step(struct state *state, uint16_t word);
+void port_step(struct state *state, uint16_t word, enum rule rule);
 
 #endif
