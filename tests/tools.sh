@@ -5,6 +5,7 @@ unpack() { # SAMPLE: makes a repository of one crate from the sample's files, wi
     rm -rf "$made"
     mkdir -p "$made/crates/sample/src" "$made/docs"
     echo 'sample:' >"$made/crates.txt"
+    sed -n "s|^file: \(.*\)/.*|$made/crates/sample/src/\1|p" "$1" | xargs -r mkdir -p
     awk -v src="$made/crates/sample/src/" '/^file: / { out = src $2; next } out { print >out }' "$1"
     tools/contracts list "$made" >"$made/docs/CONTRACTS.md"
 }

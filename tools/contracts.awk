@@ -116,7 +116,7 @@ function finish() {
     if (head ~ /->/ && !told) fault("says nothing of its result")
     if (head ~ /[A-Z][A-Za-z0-9_]*<'/) fault("has a struct that holds a reference, which this tool does not read")
     lent(head)
-    print "| `" crate "` | `" (type == "" ? "" : type "::") name "` | `" contract "` | " laws " |"
+    print "| `" crate "` | `" (type == "" ? path : type "::") name "` | `" contract "` | " laws " |"
     inside = 0
 }
 
@@ -143,30 +143,51 @@ function bring(text,    from, names, count, at, name) {
     }
 }
 
-# a free function of a module is public where lib.rt says so; a method is public with its type
-function exported(    line, found) {
-    if (FILENAME ~ /\/lib\.rt$/ || type != "") return 1
-    while ((getline line < beside("lib")) > 0)
-        if (line ~ "^pub (use " module "::" name "|mod " module ");") found = 1
-    close(beside("lib"))
+# a free function is public where each module on the way from lib.rt to its file is, or where lib.rt exports it by name; a method is public with its type
+function exported(    count, at, above) {
+    path = ""
+    if (type != "" || below == "lib") return 1
+    if (says("lib", "pub use " below "::" name ";")) return 1
+    count = split(below, modules, "/")
+    above = "lib"
+    for (at = 1; at <= count; at++) {
+        if (!says(above, "pub mod " modules[at] ";")) return 0
+        path = path modules[at] "::"
+        above = (at == 1 ? "" : above "/") modules[at]
+    }
+    return 1
+}
+
+# whether a file of this crate has this line, a comment behind it left out
+function says(file, text,    line, found) {
+    file = root file ".rt"
+    while ((getline line < file) > 0) {
+        sub(/[ \t]*(\/\/.*)?$/, "", line)
+        if (line == text) found = 1
+    }
+    close(file)
     return found
 }
 
-function beside(module,    path) {
-    path = FILENAME; sub(/[^\/]*$/, module ".rt", path)
-    return path
+# whether the line exports a module of this crate, or, in lib.rt, one thing of a module beside it by its own name, which is no module itself
+function plain_export(    name, things) {
+    if ($0 !~ /^pub (mod [a-z0-9_]+|use [a-z0-9_]+::[A-Za-z0-9_]+);$/) return 0
+    name = $3; sub(/;$/, "", name)
+    if ($2 == "mod") return there((below == "lib" ? "" : below "/") name)
+    split(name, things, "::")
+    return below == "lib" && there(things[1]) && !there(things[1] "/" things[2])
 }
 
-# whether the line exports a module of this folder, or one thing of it by its own name
-function plain_export(    path, line, there) {
-    if (FILENAME !~ /\/lib\.rt$/ || $0 !~ /^pub (mod [a-z0-9_]+|use [a-z0-9_]+::[A-Za-z0-9_]+);$/) return 0
-    path = $3; sub(/[:;].*/, "", path); path = beside(path)
-    there = (getline line < path) >= 0
-    close(path)
-    return there
+# whether a module of this path has a file
+function there(module,    file, line, found) {
+    file = root module ".rt"
+    found = (getline line < file) >= 0
+    close(file)
+    return found
 }
 
-FNR == 1 { module = FILENAME; sub(/.*\//, "", module); sub(/\.rt$/, "", module) }
+# the folder src/ with its path, and the file's path below it
+FNR == 1 { root = below = FILENAME; sub(/\/src\/.*/, "/src/", root); sub(/.*\/src\//, "", below); sub(/\.rt$/, "", below) }
 { sub(/\/\/.*/, ""); gsub(/[ \t]+/, " "); sub(/ $/, "") }
 /\/\*|\*\// { fault("a comment by /* and */, which this tool does not read") }
 /^ ?pub (use|mod) / && !plain_export() { fault("an export that this tool does not read") }
