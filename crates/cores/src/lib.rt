@@ -21,6 +21,7 @@ ghost use Rattle.basis.specs.Bit.{put};
 mod arithmetic;
 mod bits;
 mod flow;
+pub mod lent;
 pub mod pointer;
 mod transfer;
 

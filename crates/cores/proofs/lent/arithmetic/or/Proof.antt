@@ -1,0 +1,19 @@
+-- `or`: what its calls ensure, put together.
+-- Assumes nothing.
+use borrow.Author.Needs.{needs}
+use mathlib.Core.Path.{refl}
+use Rattle.cores.specs.State.{withRegs}
+use Rattle.cores.proofs.lent.arithmetic.or.Statement.{statement}
+use Rattle.cores.proofs.lent.arithmetic.or.Tie as tie
+
+pub or-spec : {M : Type 1} → statement M
+unfolding withRegs
+or-spec =
+    tie.close
+    (tie.spec
+    (λ c κs. search needs)
+    (λ c κs. search needs)
+    (λ c. search needs)
+    (λ c.
+    let e = c .before .before .put-result .ensures in
+    rw (e .0, e .1, c .before .before .before .before .read .ensures) (refl, refl)))

@@ -1,0 +1,21 @@
+-- `sbiw`: what its calls ensure, put together.
+-- Assumes nothing.
+use borrow.Author.Needs.{needs}
+use mathlib.Core.Path.{refl}
+use Rattle.cores.specs.State.{withRegs, withBusy, withReg}
+use Rattle.cores.proofs.lent.arithmetic.sbiw.Statement.{statement}
+use Rattle.cores.proofs.lent.arithmetic.sbiw.Tie as tie
+
+pub sbiw-spec : {M : Type 1} → statement M
+unfolding withRegs withBusy withReg
+sbiw-spec =
+    tie.close
+    (tie.spec
+    (λ c κs. search needs)
+    (λ c κs. search needs)
+    (λ c κs. search needs)
+    (λ c κs. search needs)
+    (λ c. search needs)
+    (λ c.
+    let p = c .before .before .before .before .before in
+    rw (c .cznvs .ensures, p .put-word .ensures, p .before .before .before .minus-word .ensures, p .before .before .before .before .read-word .ensures) (refl, refl)))

@@ -1,0 +1,19 @@
+-- `asr`: what its calls ensure, put together.
+-- Assumes nothing.
+use borrow.Author.Needs.{needs}
+use mathlib.Core.Path.{refl}
+use Rattle.cores.specs.State.{withRegs}
+use Rattle.cores.proofs.lent.bits.asr.Statement.{statement}
+use Rattle.cores.proofs.lent.bits.asr.Tie as tie
+
+pub asr-spec : {M : Type 1} → statement M
+unfolding withRegs
+asr-spec =
+    tie.close
+    (tie.spec
+    (λ c κs. search needs)
+    (λ c κs. search needs)
+    (λ c. search needs)
+    (λ c.
+    let e = c .before .before .shift .ensures in
+    rw (e .0, e .1, c .before .before .before .before .read .ensures) (refl, refl)))
