@@ -1,11 +1,10 @@
-// FLOW CONTROL INSTRUCTIONS, in the order of cores.rs. PC is behind the opcode already.
+// FLOW CONTROL INSTRUCTIONS, in the order of cores.rs. PC is behind the opcode already. `flow` is `lent`'s, over the core's registers.
 use crate::Core;
-use alu::Sum;
+use crate::lent::flow;
 use instruction::Instruction;
 ghost use mathlib.Core.Path.{_≡_};
 ghost use Rattle.instruction.specs.Decode.{decodeOf};
-ghost use Rattle.cores.specs.State.{reg, withSreg, Leaves};
-ghost use Rattle.cores.specs.Arithmetic.{sumFlags};
+ghost use Rattle.cores.specs.State.{reg, Leaves};
 ghost use Rattle.cores.specs.Flow.{
   brbxOf,
   wordPushed,
@@ -77,38 +76,27 @@ impl Core {
         self.subroutine(back, (k % 65536) as u16, 2, data)
     }
 
-    // The six flags of a difference; no register is written.
-    fn compare(self, R: Sum, Z: bool) -> Core
-        ensures { λ j. ⌜ j ≡ withSreg self (sumFlags self R Z) ⌝ }
-    {
-        self.set_cznvsh(R.carry, Z, R.value >= 128, R.overflow, R.half)
-    }
-
     pub fn cp(self, d: u8, r: u8) -> Core
         ensures { λ j. ⌜ j ≡ cpOf self d (reg self r) ⌝ }
     {
-        // Rd - Rr
         self.cpi(d, self.get_register(r))
     }
 
-    pub fn cpc(self, d: u8, r: u8) -> Core
+    pub fn cpc(mut self, d: u8, r: u8) -> Core
         ensures { λ j. ⌜ j ≡ cpcOf self d (reg self r) ⌝ }
     {
-        // Rd - Rr - C
-        let Rd = self.get_register(d);
         let Rr = self.get_register(r);
-        let R = alu::minus(Rd, Rr, self.get_sreg_bit(Core::C));
-        let Z = self.get_sreg_bit(Core::Z) & (R.value == 0);
-        self.compare(R, Z)
+        let regs = self.regs;
+        self.sreg = flow::cpc(&regs, d, Rr, self.sreg);
+        self
     }
 
-    pub fn cpi(self, d: u8, K: u8) -> Core
+    pub fn cpi(mut self, d: u8, K: u8) -> Core
         ensures { λ j. ⌜ j ≡ cpOf self d K ⌝ }
     {
-        // Rd - K
-        let Rd = self.get_register(d);
-        let R = alu::minus(Rd, K, false);
-        self.compare(R, R.value == 0)
+        let regs = self.regs;
+        self.sreg = flow::cp(&regs, d, K, self.sreg);
+        self
     }
 
     // Over the instruction at PC, of one word or of two.

@@ -11,10 +11,6 @@ ghost use Rattle.cores.specs.State.{
   flag,
   readRegisterOf,
   setRegisterOf,
-  cz,
-  znvs,
-  cznvs,
-  cznvsh,
 };
 ghost use Rattle.basis.specs.Bit.{put};
 
@@ -151,8 +147,7 @@ impl Core {
         ensures { λ k. ⌜ k ≡ withWord self low value ⌝ }
     {
         let mut regs = self.regs;
-        memory::write(&mut regs, low as usize, (value % 256) as u8);
-        memory::write(&mut regs, low as usize + 1, (value / 256) as u8);
+        lent::put_word(&mut regs, low, value);
         self.regs = regs;
         self
     }
@@ -168,33 +163,5 @@ impl Core {
     {
         self.sreg = basis::with_bit(self.sreg, bit, set);
         self
-    }
-
-    // Flags one after the other, as every handler of the Rust sets them; S goes with N and V.
-    fn set_cz(self, C: bool, Z: bool) -> Core
-        ensures { λ k. ⌜ k ≡ withSreg self (cz (self .sreg) C Z) ⌝ }
-    {
-        self.set_sreg_bit(Core::C, C).set_sreg_bit(Core::Z, Z)
-    }
-
-    fn set_znvs(self, Z: bool, N: bool, V: bool) -> Core
-        ensures { λ k. ⌜ k ≡ withSreg self (znvs (self .sreg) Z N «V») ⌝ }
-    {
-        self.set_sreg_bit(Core::Z, Z)
-            .set_sreg_bit(Core::N, N)
-            .set_sreg_bit(Core::V, V)
-            .set_sreg_bit(Core::S, N != V)
-    }
-
-    fn set_cznvs(self, C: bool, Z: bool, N: bool, V: bool) -> Core
-        ensures { λ k. ⌜ k ≡ withSreg self (cznvs (self .sreg) C Z N «V») ⌝ }
-    {
-        self.set_sreg_bit(Core::C, C).set_znvs(Z, N, V)
-    }
-
-    fn set_cznvsh(self, C: bool, Z: bool, N: bool, V: bool, H: bool) -> Core
-        ensures { λ k. ⌜ k ≡ withSreg self (cznvsh (self .sreg) C Z N «V» H) ⌝ }
-    {
-        self.set_cznvs(C, Z, N, V).set_sreg_bit(Core::H, H)
     }
 }

@@ -10,5 +10,4 @@ and-spec =
     (tie.spec
     (λ c κs. search needs)
     (λ c κs. search needs)
-    (λ c κs. search needs)
-    (λ c. rw (c .put-result .ensures, c .before .get-register2 .ensures, c .before .before .get-register .ensures)))
+    (λ c. rw (c .andi .ensures, c .before .get-register .ensures)))

@@ -1,17 +1,17 @@
--- `dec` is its definition.
+-- `dec`: what its calls ensure, put together.
 -- Assumes nothing.
 use borrow.Author.Needs.{needs}
-use mathlib.Core.Path.{_≡_}
-use Prim.Native.Nat.{_+_, _%_}
-use native.Mathlib.Omega.{arith}
+use Rattle.cores.specs.State.{withRegs, withReg}
 use Rattle.cores.proofs.Core.dec.Statement.{statement}
 use Rattle.cores.proofs.Core.dec.Tie as tie
 
 pub dec-spec : {M : Type 1} → statement M
+unfolding withRegs withReg
 dec-spec =
     tie.close
     (tie.spec
+    (λ c. search needs)
     (λ c κs. search needs)
-    (λ c κs. search needs)
-    (λ c κs. search needs)
-    (λ c. let a = c .before .before .get-register .result in let e : c .before .wrapping-sub-u8 .result ≡ (a + 255) % 256 = omega arith in cc e))
+    (λ c.
+    let e = c .before .dec .ensures in
+    rw (e .0, e .1)))

@@ -1,17 +1,17 @@
 -- `fmulsu`: what its calls ensure, put together.
 -- Assumes nothing.
 use borrow.Author.Needs.{needs}
+use Rattle.cores.specs.State.{withRegs, withBusy, withReg}
 use Rattle.cores.proofs.Core.fmulsu.Statement.{statement}
 use Rattle.cores.proofs.Core.fmulsu.Tie as tie
 
 pub fmulsu-spec : {M : Type 1} → statement M
+unfolding withRegs withBusy withReg
 fmulsu-spec =
     tie.close
     (tie.spec
-    (λ c κs. search needs)
-    (λ c κs. search needs)
-    (λ c κs. search needs)
     (λ c. search needs)
     (λ c κs. search needs)
-    (λ c κs. search needs)
-    (λ c. rw (c .put-fraction .ensures, c .before .product .ensures, c .before .before .signed .ensures, c .before .before .before .get-register2 .ensures, c .before .before .before .before .get-register .ensures)))
+    (λ c.
+    let e = c .before .fmulsu .ensures in
+    rw (e .0, e .1)))

@@ -1,13 +1,17 @@
 -- `ror`: what its calls ensure, put together.
 -- Assumes nothing.
 use borrow.Author.Needs.{needs}
+use Rattle.cores.specs.State.{withRegs, withReg}
 use Rattle.cores.proofs.Core.ror.Statement.{statement}
 use Rattle.cores.proofs.Core.ror.Tie as tie
 
 pub ror-spec : {M : Type 1} → statement M
+unfolding withRegs withReg
 ror-spec =
     tie.close
     (tie.spec
+    (λ c. search needs)
     (λ c κs. search needs)
-    (λ c κs. search needs)
-    (λ c. rw (c .shift .ensures, c .before .get-sreg-bit .ensures)))
+    (λ c.
+    let e = c .before .ror .ensures in
+    rw (e .0, e .1)))

@@ -1,16 +1,17 @@
 -- `sbci`: what its calls ensure, put together.
 -- Assumes nothing.
 use borrow.Author.Needs.{needs}
+use Rattle.cores.specs.State.{withRegs, withReg}
 use Rattle.cores.proofs.Core.sbci.Statement.{statement}
 use Rattle.cores.proofs.Core.sbci.Tie as tie
 
 pub sbci-spec : {M : Type 1} → statement M
+unfolding withRegs withReg
 sbci-spec =
     tie.close
     (tie.spec
+    (λ c. search needs)
     (λ c κs. search needs)
-    (λ c κs. search needs)
-    (λ c κs. search needs)
-    (λ c κs. search needs)
-    (λ c κs. search needs)
-    (λ c. rw (c .put-sum .ensures, c .before .before .get-sreg-bit2 .ensures, c .before .before .before .minus .ensures, c .before .before .before .before .get-sreg-bit .ensures, c .before .before .before .before .before .get-register .ensures)))
+    (λ c.
+    let e = c .before .sbc .ensures in
+    rw (e .0, e .1)))

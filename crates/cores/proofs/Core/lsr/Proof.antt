@@ -1,0 +1,17 @@
+-- `lsr`: what its calls ensure, put together.
+-- Assumes nothing.
+use borrow.Author.Needs.{needs}
+use Rattle.cores.specs.State.{withRegs, withReg}
+use Rattle.cores.proofs.Core.lsr.Statement.{statement}
+use Rattle.cores.proofs.Core.lsr.Tie as tie
+
+pub lsr-spec : {M : Type 1} → statement M
+unfolding withRegs withReg
+lsr-spec =
+    tie.close
+    (tie.spec
+    (λ c. search needs)
+    (λ c κs. search needs)
+    (λ c.
+    let e = c .before .lsr .ensures in
+    rw (e .0, e .1)))
