@@ -54,7 +54,10 @@ fn inside(token: &TokenTree) -> TokenTree {
 
 /// The `match` over `subject` with a guard for each pattern.
 fn matching(subject: &[TokenTree], arms: &TokenTree) -> TokenStream {
-    let TokenTree::Group(arms) = arms else { unreachable!("the arms are a block") };
+    let arms = match arms {
+        TokenTree::Group(arms) => arms,
+        _ => unreachable!("the arms are a block"),
+    };
     let mut body = TokenStream::new();
     for (text, result) in arms_of(arms.stream()) {
         body.extend(code(&pattern::guard(&text)));
@@ -75,7 +78,7 @@ fn arms_of(stream: TokenStream) -> Vec<(String, TokenStream)> {
     while let Some(text) = tokens.next() {
         let arrow = [tokens.next(), tokens.next()].map(|token| token.map(|token| token.to_string()));
         assert_eq!(arrow, [Some("=".into()), Some(">".into())], "an arm without an arrow");
-        let block = tokens.peek().is_some_and(is_block);
+        let block = tokens.peek().map_or(false, is_block);
         let mut result = TokenStream::new();
         while let Some(token) = tokens.next_if(|token| token.to_string() != ",") {
             result.extend([token]);

@@ -13,7 +13,10 @@ fn characters(text: &str) -> Option<Vec<char>> {
 
 /// The arm's head: the word fits where its fixed bits are the text's.
 pub fn guard(text: &str) -> String {
-    let Some(characters) = characters(text) else { return "_ =>".into() };
+    let characters = match characters(text) {
+        Some(characters) => characters,
+        None => return "_ =>".into(),
+    };
     let number = |chosen: &dyn Fn(char) -> bool| characters.iter().fold(0u16, |sum, c| sum << 1 | u16::from(chosen(*c)));
     let mask = number(&|c| c == '0' || c == '1');
     let value = number(&|c| c == '1');
