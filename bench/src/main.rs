@@ -1,46 +1,59 @@
-//! Ticks a second of the original (a plain release build) and of the port, over the two images of firmware/, in turn on the same machine.
+//! The original (a plain release build), the port, and where they are there the port before a change and simavr, over the works of work.rs, in one program.
+//! Without words: ticks a second, in turns. `names`: a line for each work and machine. `passes WORK MACHINE TIMES`: some passes of one of them TIMES times, for
+//! a program around this one that counts instructions; prints the ticks.
 
+#[cfg(feature = "before")]
+mod before;
 mod original;
 mod port;
+#[cfg(feature = "simavr")]
+mod simavr;
 mod work;
 
+use std::env;
+use std::process::exit;
+
 use original::Original;
-use port::Port;
-use work::{speed, Machine, Work};
+use port::{ticks_of, Port, Present};
+use work::{go, speed, works, Machine, Work};
 
-const TICKS: u32 = 5_000_000;
+/// The ticks of a round of the clock, and of a count of instructions.
+const TIMED_TICKS: u32 = 5_000_000;
+const COUNTED_TICKS: u32 = 500_000;
 const ROUNDS: usize = 9;
-
-const WORKS: [Work; 2] = [
-    Work { name: "heat_index, no offer", image: include_bytes!("../../firmware/heat_index.bin"), vector: None, data_bytes: 16_384 },
-    Work {
-        name: "heat_index_timer, its vector offered at every tick",
-        image: include_bytes!("../../firmware/heat_index_timer.bin"),
-        vector: Some(16),
-        data_bytes: 16_384,
-    },
-];
 
 type Named = (&'static str, Box<dyn Machine>);
 
-fn machines(work: &Work) -> [Named; 3] {
-    [
+/// The original first, then the port.
+#[cfg_attr(not(any(feature = "before", feature = "simavr")), allow(unused_mut))]
+fn machines(work: &Work) -> Vec<Named> {
+    let mut machines: Vec<Named> = vec![
         ("original", Box::new(Original::new(work))),
-        ("avr_run", Box::new(Port::new(work, Port::run))),
-        ("avr_tick", Box::new(Port::new(work, Port::ticks))),
-    ]
+        ("avr_run", Box::new(Port::<Present>::new(work, Port::run))),
+        ("avr_tick", Box::new(Port::<Present>::new(work, Port::ticks))),
+    ];
+    #[cfg(feature = "before")]
+    machines.extend([
+        ("avr_run before", Box::new(Port::<before::Before>::new(work, Port::run)) as Box<dyn Machine>),
+        ("avr_tick before", Box::new(Port::<before::Before>::new(work, Port::ticks))),
+    ]);
+    #[cfg(feature = "simavr")]
+    machines.extend(simavr::Simavr::new(work).map(|simavr| ("simavr", Box::new(simavr) as Box<dyn Machine>)));
+    machines
 }
 
-/// All three must have done the same.
+/// All must have done the same as the original, whose PC is not shown, and stand where the port does.
 fn agree(machines: &[Named]) {
+    let (original, port) = (&machines[0].1, &machines[1].1);
     for (name, machine) in &machines[1..] {
-        assert!(machine.registers() == machines[0].1.registers() && machine.data() == machines[0].1.data(), "{name} ends elsewhere");
+        let same = machine.registers() == original.registers() && machine.data() == original.data() && machine.pc() == port.pc();
+        assert!(same, "{name} ends elsewhere");
     }
 }
 
 /// Each machine's speeds, sorted. They take turns, so that what else runs on the machine hits all alike.
-fn measure(machines: &mut [Named; 3], passes: u32, ticks: u32) -> [[f64; ROUNDS]; 3] {
-    let mut speeds = [[0.0; ROUNDS]; 3];
+fn measure(machines: &mut [Named], passes: u32, ticks: u32) -> Vec<[f64; ROUNDS]> {
+    let mut speeds = vec![[0.0; ROUNDS]; machines.len()];
     for round in 0..ROUNDS {
         for (speeds, (_, machine)) in speeds.iter_mut().zip(machines.iter_mut()) {
             speeds[round] = speed(machine.as_mut(), passes, ticks);
@@ -50,18 +63,53 @@ fn measure(machines: &mut [Named; 3], passes: u32, ticks: u32) -> [[f64; ROUNDS]
     speeds
 }
 
+fn time(work: &Work) {
+    let ticks = ticks_of(work);
+    let passes = TIMED_TICKS / ticks;
+    let mut machines = machines(work);
+    let speeds = measure(&mut machines, passes, ticks);
+    agree(&machines);
+    println!("{}, {}: {passes} passes of {ticks} ticks; million ticks a second, median of {ROUNDS} rounds (best)", work.name, work.about);
+    let original = speeds[0][ROUNDS / 2];
+    for ((name, _), speeds) in machines.iter().zip(speeds) {
+        let (median, best) = (speeds[ROUNDS / 2], speeds[ROUNDS - 1]);
+        println!("  {name:15} {:5.1} ({:5.1}), {:.2} of the original", median / 1e6, best / 1e6, median / original);
+    }
+}
+
+fn name(work: &Work) {
+    for (machine, _) in machines(work) {
+        println!("{}\t{machine}", work.name);
+    }
+}
+
+/// Every machine makes one pass, which is compared, and the one of that name the others.
+fn count(work: &Work, name: &str, times: u32) {
+    let ticks = ticks_of(work);
+    let passes = COUNTED_TICKS / ticks * times;
+    let mut machines = machines(work);
+    machines.iter_mut().for_each(|(_, machine)| go(machine.as_mut(), 1, ticks));
+    agree(&machines);
+    let (_, machine) = machines.iter_mut().find(|(other, _)| *other == name).unwrap_or_else(|| refuse());
+    go(machine.as_mut(), passes, ticks);
+    println!("{}", passes * ticks);
+}
+
+fn refuse() -> ! {
+    eprintln!("bench, bench names, or bench passes WORK MACHINE TIMES");
+    exit(2)
+}
+
 fn main() {
-    for work in &WORKS {
-        let ticks = Port::ticks_before_break(work);
-        let passes = TICKS / ticks;
-        let mut machines = machines(work);
-        let speeds = measure(&mut machines, passes, ticks);
-        agree(&machines);
-        println!("{}: {passes} passes of {ticks} ticks; million ticks a second, best of {ROUNDS} rounds (median)", work.name);
-        let original = speeds[0][ROUNDS - 1];
-        for ((name, _), speeds) in machines.iter().zip(speeds) {
-            let (median, best) = (speeds[ROUNDS / 2], speeds[ROUNDS - 1]);
-            println!("  {name:8} {:5.1} ({:5.1}), {:.2} of the original", best / 1e6, median / 1e6, best / original);
+    let words: Vec<String> = env::args().skip(1).collect();
+    let works = works();
+    match words.iter().map(String::as_str).collect::<Vec<_>>()[..] {
+        [] => works.iter().for_each(time),
+        ["names"] => works.iter().for_each(name),
+        ["passes", work, machine, times] => {
+            let work = works.iter().find(|other| other.name == work).unwrap_or_else(|| refuse());
+            count(work, machine, times.parse().unwrap_or_else(|_| refuse()))
         }
+        _ => refuse(),
     }
 }

@@ -73,4 +73,8 @@ impl Machine for Original {
         let mut data = self.data.borrow_mut();
         (0..data.get_size()).map(|address| data.read(address).0).collect()
     }
+
+    fn pc(&self) -> Option<u16> {
+        None
+    }
 }

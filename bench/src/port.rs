@@ -1,47 +1,75 @@
-//! The port through its C interface: `avr_run` for a whole pass, or `avr_tick` a call a tick.
+//! The port through its C interface: `avr_run` for a whole pass, or `avr_tick` a call a tick. The archive of an earlier commit may stand beside the present one.
 
-use crate::work::{Machine, Work};
+use std::marker::PhantomData;
+
+use crate::work::{Machine, Pass, Work};
+use avr_core::Snapshot;
 
 const BUDGET: u32 = 24;
 const WAITED: u32 = 16;
 const RAN: u32 = 18;
 
-type Way = fn(&mut Port, u32) -> bool;
-
-pub struct Port {
-    image: &'static [u8],
-    offer: u32,
-    data: Vec<u8>,
-    snapshot: [u8; avr_core::SNAPSHOT_BYTES],
-    way: Way,
+/// The calls of one archive.
+pub trait Archive {
+    fn tick(snapshot: &mut [u8], program: &[u8], data: &mut [u8], offer: u32) -> u32;
+    fn run(snapshot: &mut [u8], program: &[u8], data: &mut [u8], offer: u32, budget: u32) -> (u32, u32);
 }
 
-impl Port {
+/// The archive that host/rust links.
+pub struct Present;
+
+impl Archive for Present {
+    fn tick(snapshot: &mut [u8], program: &[u8], data: &mut [u8], offer: u32) -> u32 {
+        avr_core::tick(snapshot, program, data, offer)
+    }
+
+    fn run(snapshot: &mut [u8], program: &[u8], data: &mut [u8], offer: u32, budget: u32) -> (u32, u32) {
+        avr_core::run(snapshot, program, data, offer, budget)
+    }
+}
+
+type Way<A> = fn(&mut Port<A>, u32) -> bool;
+
+pub struct Port<A: Archive> {
+    image: Vec<u8>,
+    offer: u32,
+    data: Vec<u8>,
+    snapshot: Snapshot,
+    way: Way<A>,
+    archive: PhantomData<A>,
+}
+
+impl<A: Archive> Port<A> {
     /// `way` is `Port::run` or `Port::ticks`.
-    pub fn new(work: &Work, way: Way) -> Self {
+    pub fn new(work: &Work, way: Way<A>) -> Self {
         let offer = work.vector.map_or(avr_core::NO_OFFER, u32::from);
-        Port { image: work.image, offer, data: vec![0; work.data_bytes], snapshot: [0; avr_core::SNAPSHOT_BYTES], way }
+        Port { image: work.image.clone(), offer, data: vec![0; work.data_bytes], snapshot: Snapshot::fresh(0), way, archive: PhantomData }
     }
 
     pub fn run(&mut self, ticks: u32) -> bool {
-        avr_core::run(&mut self.snapshot, self.image, &mut self.data, self.offer, ticks) == (BUDGET, ticks)
+        A::run(&mut self.snapshot, &self.image, &mut self.data, self.offer, ticks) == (BUDGET, ticks)
     }
 
     pub fn ticks(&mut self, ticks: u32) -> bool {
-        (0..ticks).all(|_| (WAITED..=RAN).contains(&avr_core::tick(&mut self.snapshot, self.image, &mut self.data, self.offer)))
-    }
-
-    /// The ticks of the image's run before its BREAK.
-    pub fn ticks_before_break(work: &Work) -> u32 {
-        let mut port = Port::new(work, Port::run);
-        let (_, ticks) = avr_core::run(&mut port.snapshot, port.image, &mut port.data, port.offer, u32::MAX);
-        ticks - 1
+        (0..ticks).all(|_| (WAITED..=RAN).contains(&A::tick(&mut self.snapshot, &self.image, &mut self.data, self.offer)))
     }
 }
 
-impl Machine for Port {
+/// The ticks of a pass.
+pub fn ticks_of(work: &Work) -> u32 {
+    match work.pass {
+        Pass::Ticks(ticks) => ticks,
+        Pass::ToBreak => {
+            let mut port = Port::<Present>::new(work, Port::run);
+            let (_, ticks) = Present::run(&mut port.snapshot, &port.image, &mut port.data, port.offer, u32::MAX);
+            ticks - 1
+        }
+    }
+}
+
+impl<A: Archive> Machine for Port<A> {
     fn restart(&mut self) {
-        self.snapshot = [0; avr_core::SNAPSHOT_BYTES];
+        self.snapshot = Snapshot::fresh(0);
     }
 
     fn go(&mut self, ticks: u32) -> bool {
@@ -54,5 +82,9 @@ impl Machine for Port {
 
     fn data(&self) -> Vec<u8> {
         self.data.clone()
+    }
+
+    fn pc(&self) -> Option<u16> {
+        Some(self.snapshot.pc())
     }
 }
