@@ -1,5 +1,5 @@
 /* A plugin of qemu: counts the instructions that a program executes and prints their number when it ends.
- * Off x86-64 it stands in for callgrind. Debian has no header of qemu's plugin interface, so what is needed of it (version 1, qemu 4.2 to 8) is declared here. */
+ * Off x86-64 it stands in for callgrind. Of qemu's plugin interface, version 1 (that of Debian's qemu 7.2, which comes without a header), it declares what it needs. */
 #include <inttypes.h>
 #include <stdio.h>
 
