@@ -4,10 +4,10 @@ use mathlib.Core.Bool.{Bool, true, false, not, _&&_, _||_}
 use Prim.Native.Nat.{ℕ, _+_, _%_, _-_}
 use lib.Dec.{eqb, ltb}
 use lib.Bits.{bitAnd, bitOr, bitXor}
-use Rattle.basis.specs.Pick.{pick}
 use Rattle.basis.specs.Bit.{bit}
 use Rattle.alu.specs.Alu.{negative, negativeWord, plusOf, minusOf, plusWordOf, minusWordOf, signedOf, productOf, doubledOf}
 use Rattle.alu.specs.declared.Sum.{Sum}
+use Rattle.rule.specs.Rule.{oldBitClear}
 use Rattle.cores.specs.declared.Core.{Core}
 use Rattle.cores.specs.State.{reg, word, withReg, withWord, withSreg, withBusy, flag, cz, znvs, cznvs, cznvsh}
 
@@ -34,11 +34,7 @@ adcOf k d r = let x = plusOf (reg k d) (reg k r) (flag k 0) in summed k d x (isZ
 abbrev pub addOf : Core → ℕ → ℕ → Core
 addOf k d r = let x = plusOf (reg k d) (reg k r) false in summed k d x (isZero x)
 
--- "ADIW: C carry, V old bit 7 clear and new bit 15 set. H kept." 02, W2: "Under chip, ADIW's V is old bit 15 clear and new bit 15 set"
--- the old bit of the word a is clear
-abbrev pub oldBitClear : Bool → ℕ → Bool
-oldBitClear chip a = pick chip (ltb a 32768) (ltb (a % 256) 128)
-
+-- "ADIW: C carry, V old bit 7 clear and new bit 15 set. H kept." Which old bit it is goes by the rule
 abbrev pub adiwOf : Core → ℕ → ℕ → Core
 adiwOf k d K =
     let k₁ = withBusy k 1 in

@@ -9,9 +9,10 @@ use Rattle.bits.proofs.Tops.{bit7, bit15, bit16, high7, clear}
 use Rattle.bits.proofs.Carries.{carry16, borrow16}
 use Rattle.bits.proofs.Products.{both-signed, first-signed}
 use Rattle.alu.specs.Alu.{productOf, signedOf}
+use Rattle.rule.specs.Rule.{oldBitClear}
 use Rattle.cores.specs.declared.Core.{Core}
 use Rattle.cores.specs.State.{reg, withReg, withWord, withSreg, withBusy, withPc}
-use Rattle.cores.specs.Arithmetic.{oldBitClear, adiwOf, sbiwOf, multiplied, fractional, mulOf, mulsOf, mulsuOf, fmulOf, fmulsOf, fmulsuOf}
+use Rattle.cores.specs.Arithmetic.{adiwOf, sbiwOf, multiplied, fractional, mulOf, mulsOf, mulsuOf, fmulOf, fmulsOf, fmulsuOf}
 use Rattle.cores.proofs.Bounds.{word-lt}
 use Rattle.manual.specs.Notation.{_!_, bar, zero16, kept, is, row, next}
 use Rattle.manual.specs.Switches.{adiwV, base}

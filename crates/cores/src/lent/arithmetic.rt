@@ -11,7 +11,6 @@ ghost use Rattle.cores.specs.Arithmetic.{
   resulted,
   adcOf,
   addOf,
-  oldBitClear,
   adiwOf,
   andOf,
   comOf,
@@ -65,13 +64,6 @@ pub fn add(regs: &mut [u8], d: u8, r: u8, sreg: u8) -> u8
     put_sum(regs, d, R, R.value == 0, sreg)
 }
 
-// The bit of the old word that ADIW's V looks at: 15 in the chip, 7 in the Rust.
-fn old_bit_clear(chip: bool, word: u16) -> bool
-    ensures { λ b. ⌜ b ≡ oldBitClear chip word ⌝ }
-{
-    if chip { word < 32768 } else { word % 256 < 128 }
-}
-
 // The rule is the core's.
 pub fn adiw(regs: &mut [u8], d: u8, K: u8, sreg: u8, chip: bool) -> u8
     ensures { λ s. ⌜ s ≡ adiwOf (withChip (lent (now (regs .entry)) sreg) chip) d K .sreg ⌝ }
@@ -81,7 +73,7 @@ pub fn adiw(regs: &mut [u8], d: u8, K: u8, sreg: u8, chip: bool) -> u8
     let Rd_hl = memory::read_word(regs, d as usize);
     let R_hl = alu::plus_word(Rd_hl, K);
     let N = R_hl.value >= 32768;
-    let V = old_bit_clear(chip, Rd_hl) & N;
+    let V = rule::old_bit_clear(chip, Rd_hl) & N;
     put_word(regs, d, R_hl.value);
     flags::cznvs(sreg, R_hl.carry, R_hl.value == 0, N, V)
 }

@@ -1,7 +1,7 @@
 -- `old_bit_clear`: by the rule.
 -- Assumes nothing.
-use Rattle.cores.proofs.lent.arithmetic.old_bit_clear.Statement.{statement}
-use Rattle.cores.proofs.lent.arithmetic.old_bit_clear.Tie as tie
+use Rattle.rule.proofs.old_bit_clear.Statement.{statement}
+use Rattle.rule.proofs.old_bit_clear.Tie as tie
 
 pub old-bit-clear-spec : {M : Type 1} → statement M
 old-bit-clear-spec =

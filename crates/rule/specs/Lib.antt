@@ -1,0 +1,2 @@
+-- `Rule`: what the rule decides, source or chip.
+pub mod Rule
