@@ -6,6 +6,8 @@ use mathlib.Core.Bool.{true, false}
 use mathlib.Core.List.{List}
 use Prim.Native.Nat.{ℕ, _+_, _-_, _≤_, _<_}
 use native.Mathlib.Omega.{arith}
+use lib.Dec.{eqb}
+use borrow.Author.Tests.{ne-eqb}
 use Rattle.basis.specs.Bytes.{Bytes}
 use Rattle.instruction.specs.Decode.{decodeOf}
 use Rattle.instruction.specs.Fields.{InFields}
@@ -92,6 +94,10 @@ done-number done.Sleep = omega arith
 done-number done.Watchdog = omega arith
 done-number done.Undefined = omega arith
 done-number done.Break = omega arith
+
+-- an executed instruction does not answer entered
+pub done-enters-not : (d : Done) → eqb (numberOf (answerOf d)) 17 ≡ false
+done-enters-not d = ne-eqb (numberOf (answerOf d)) 17 (omega (arith, done-number d))
 
 pub ticks-answer-tick-numbers : TicksAnswerTickNumbers
 ticks-answer-tick-numbers k p m o =

@@ -6,11 +6,11 @@ use Prim.Native.Nat.{ℕ, zero, suc, _+_, _<_}
 use native.Mathlib.Omega.{arith}
 use Rattle.cores.specs.State.{withBusy}
 use Rattle.invariants.proofs.Rule.{ticks-keep-the-rule}
+use Rattle.tick.proofs.Steps.{busy-tick}
 use Rattle.promises.specs.Handlers.{iterated, First}
 use Rattle.promises.specs.Interrupts.{State, Offers, noOffers, AtEnd, pc, after, numberAt, Ended, Restored, Handled, NoTrace, InterruptsLeaveNoTrace, NoTraceAtTheEnd, RunsKeepTheRule, ThreeWaitsAfterReti}
 use Rattle.promises.specs.Machine as any
 use Rattle.promises.proofs.Arrival.{transparent, transparent-at}
-use Rattle.promises.proofs.Ticks.{busy-tick}
 use Rattle.promises.proofs.TickLaws.{avr, reti-law, tick-laws}
 
 -- ---- the statement's words and the machine's are the same

@@ -1,11 +1,10 @@
--- Demand 3. `Lockstep`, `Handled`, `Arrival`: for any machine. `Instructions`, `Ticks`, `Stack`, `TickLaws`: the laws of `tickOf`. `Interrupts`: the demand.
+-- Demand 3. `Lockstep`, `Handled`, `Arrival`: for any machine. `Instructions`, `Stack`, `TickLaws`: the laws of `tickOf`. `Interrupts`: the demand.
 -- `OneHandler`, `Stamps`: the worked runs. Demand 1: `BenchSheet`, 01's thirteen lines; `OneOutcome`. `Demands`: all three. `Claims`: what else is claimed.
 pub mod Logic
 pub mod Lockstep
 pub mod Handled
 pub mod Arrival
 pub mod Instructions
-pub mod Ticks
 pub mod Stack
 pub mod TickLaws
 pub mod Interrupts

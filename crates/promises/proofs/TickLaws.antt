@@ -25,13 +25,13 @@ use Rattle.execute.specs.declared.Done.{Done}
 use Rattle.tick.specs.declared.Offer.{Offer}
 use Rattle.tick.specs.declared.Offer.the-variants.{Vector, Nothing}
 use Rattle.tick.specs.declared.Answer.the-variants.{Ran, Entered}
+use Rattle.invariants.proofs.Ticks.{done-enters-not}
 use Rattle.invariants.proofs.Rule.{ticks-keep-the-rule}
-use Rattle.tick.proofs.Steps.{every-decided, every-due, onward, every-tick}
+use Rattle.tick.proofs.Steps.{every-decided, every-due, busy-tick, free-tick, onward, every-tick}
 use Rattle.promises.specs.RegisterOnly.{Kind, registerOnly, return, other, kindOf, isReturn}
 use Rattle.promises.specs.Interrupts.{State, Kept, kept, pc, sp, tickAt, next, Stretch}
 use Rattle.promises.specs.Machine.{Machine, Laws, Waits, Runs, Enters, Returns}
 use Rattle.promises.proofs.Instructions.{keptOf, withKept, freshUnder, doesOf, waitsOf, Fact, fact}
-use Rattle.promises.proofs.Ticks.{done-enters-not, busy-tick, free-tick}
 use Rattle.promises.proofs.Stack.{low-byte, high-byte, met, push-room}
 
 -- ---- 01's core with its data, as a machine

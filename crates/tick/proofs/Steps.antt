@@ -3,9 +3,9 @@
 use mathlib.Core.Path.{_≡_, refl, sym, _∙_}
 use mathlib.Core.Bool.{true, false}
 use mathlib.Core.List.{List}
-use Prim.Native.Nat.{ℕ, _+_, _-_, _≤_, _<_}
+use Prim.Native.Nat.{ℕ, suc, _+_, _-_, _≤_, _<_}
 use native.Mathlib.Omega.{arith}
-use borrow.Author.Tests.{ltb-true, ltb-false, eqb-true, eqb-false}
+use borrow.Author.Tests.{lt-ltb, le-ltb, ltb-true, ltb-false, eqb-true, eqb-false}
 use lib.Dec.{eqb, ltb}
 use Rattle.basis.proofs.Choice.{clash, cases, either}
 use Rattle.instruction.specs.Decode.{decodeOf}
@@ -48,6 +48,17 @@ pub every-due : (P : Offer → Type 0) (k : Core) (o : Offer) → P Nothing → 
 every-due P k o none some =
     cases P (k .inhibit) _ _ (λ i. none)
     λ i. cases P (flag k 7) _ _ (λ f. cases P (k .«in_service») _ _ (λ s. none) (some i)) (λ f. none)
+
+-- ---- a tick that waits, and one that does not
+pub busy-tick : (k : Core) (p m : List ℕ) (o : Offer) (b : ℕ) → k .busy ≡ suc b → b < 4 → tickOf k p m o ≡ gives Waited (withBusy k b) m
+unfolding ticked
+busy-tick k p m o b h small =
+    let z : suc b - 1 ≡ b = omega arith in
+    rw (h, le-ltb 4 (suc b) (omega arith), lt-ltb 0 (suc b) (omega arith), z)
+
+pub free-tick : (k : Core) (p m : List ℕ) (o : Offer) → k .busy ≡ 0 → tickOf k p m o ≡ entersOrSteps decodeOf k p m (due k o)
+unfolding ticked
+free-tick k p m o h = rw h
 
 -- ---- the core that an instruction is executed on
 abbrev pub onward : Core → Core
