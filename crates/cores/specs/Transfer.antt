@@ -7,6 +7,7 @@ use lib.Dec.{eqb, ltb}
 use lib.ListN.{getD, set}
 use Rattle.basis.specs.Pick.{pick}
 use Rattle.basis.specs.Bit.{up, down}
+use Rattle.rule.specs.Rule.{loadWaits, storeWaits}
 use Rattle.cores.specs.declared.Core.{Core}
 use Rattle.cores.specs.State.{Out, out, reg, word, withReg, withWord, withSreg, withSp, withBusy}
 
@@ -36,16 +37,17 @@ unfoldable pub wordIf : Core → Bool → ℕ → ℕ → Core
 wordIf k on pointer to = pick on (withWord k pointer to) k
 
 -- "a post-increment is written after the load, so it wins over a load into the pointer"; "A displaced address is pointer plus q, not wrapped."
+-- The waits go by the rule, and not by the address
 abbrev pub ldOf : Core → ℕ → ℕ → ℕ → Bool → Bool → List ℕ → Core
 ldOf k d pointer q dec inc m =
     let at = pointedOf k pointer dec in
-    let k₁ = wordIf (withBusy k 2) dec pointer at in
+    let k₁ = wordIf (withBusy k (loadWaits (k .chip))) dec pointer at in
     wordIf (withReg k₁ d (dataOf k₁ (at + q) m)) inc pointer (up at 1)
 
 abbrev pub stOf : Core → ℕ → ℕ → ℕ → Bool → Bool → List ℕ → Out
 stOf k r pointer q dec inc m =
     let at = pointedOf k pointer dec in
-    let k₁ = wordIf (withBusy k 1) dec pointer at in
+    let k₁ = wordIf (withBusy k (storeWaits (k .chip))) dec pointer at in
     let stored = setDataOf k₁ (at + q) (reg k₁ r) m in
     out (wordIf (stored .core) inc pointer (up at 1)) (stored .bytes)
 

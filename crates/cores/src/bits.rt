@@ -5,7 +5,7 @@ ghost use mathlib.Core.Path.{_≡_};
 ghost use mathlib.Core.Bool.{true, false};
 ghost use Rattle.memory.specs.Memory.{bitSetOf};
 ghost use Rattle.cores.specs.State.{out, Leaves};
-ghost use Rattle.cores.specs.Bits.{asrOf, flagMadeOf, bldOf, bstOf, lsrOf, rorOf, swapOf};
+ghost use Rattle.cores.specs.Bits.{asrOf, bclrOf, bldOf, bsetOf, bstOf, lsrOf, rorOf, swapOf};
 
 impl Core {
     pub fn asr(mut self, d: u8) -> Core
@@ -18,7 +18,7 @@ impl Core {
     }
 
     pub fn bclr(self, b: u8) -> Core
-        ensures { λ k. ⌜ k ≡ flagMadeOf self b false ⌝ }
+        ensures { λ k. ⌜ k ≡ bclrOf self b ⌝ }
     {
         self.set_sreg_bit(b, false)
     }
@@ -32,10 +32,13 @@ impl Core {
         self
     }
 
+    // Under chip the instruction behind SEI is safe, as the one behind RETI is.
     pub fn bset(self, b: u8) -> Core
-        ensures { λ k. ⌜ k ≡ flagMadeOf self b true ⌝ }
+        ensures { λ k. ⌜ k ≡ bsetOf self b ⌝ }
     {
-        self.set_sreg_bit(b, true)
+        let mut k = self.set_sreg_bit(b, true);
+        k.inhibit = rule::bset_inhibits(k.chip, b) | k.inhibit;
+        k
     }
 
     pub fn bst(mut self, d: u8, bit: u8) -> Core

@@ -89,7 +89,7 @@ impl Core {
     pub fn ld(mut self, d: u8, pointer: u8, q: u8, dec: bool, inc: bool, data: &[u8]) -> Core
         ensures { λ j. ⌜ j ≡ ldOf self d pointer q dec inc (now («data» .entry)) ⌝ }
     {
-        self.busy = 2; // AVRxt, SRAM only
+        self.busy = rule::load_waits(self.chip); // AVRxt, SRAM only
         let address = self.pointed(pointer, dec);
         let k = self.set_word_if(dec, pointer, address);
         let value = k.get_data_space(address as usize + q as usize, data);
@@ -100,7 +100,7 @@ impl Core {
     pub fn st(mut self, r: u8, pointer: u8, q: u8, dec: bool, inc: bool, data: &mut [u8]) -> Core
         ensures { λ j. ⌜ Leaves (stOf self r pointer q dec inc (now («data» .entry))) j (now («data» .exit)) ⌝ }
     {
-        self.busy = 1;
+        self.busy = rule::store_waits(self.chip);
         let address = self.pointed(pointer, dec);
         let k = self.set_word_if(dec, pointer, address);
         let k = k.set_data_space(address as usize + q as usize, k.get_register(r), data);

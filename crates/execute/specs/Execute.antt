@@ -10,7 +10,7 @@ use Rattle.cores.specs.declared.Core.{Core}
 use Rattle.cores.specs.State.{Out, out, reg, word, withReg, withWord}
 use Rattle.cores.specs.Arithmetic.{adcOf, addOf, adiwOf, andOf, comOf, decOf, eorOf, fmulOf, fmulsOf, fmulsuOf, incOf, mulOf, mulsOf, mulsuOf, negOf, orOf, sbcOf, sbiwOf, subOf}
 use Rattle.cores.specs.Flow.{overSecond, brbxOf, callOf, cpOf, cpcOf, cpseOf, icallOf, ijmpOf, jmpOf, rcallOf, retOf, retiOf, rjmpOf, sbixOf, sbrxOf}
-use Rattle.cores.specs.Bits.{asrOf, flagMadeOf, bldOf, bstOf, lsrOf, rorOf, swapOf}
+use Rattle.cores.specs.Bits.{asrOf, bclrOf, bldOf, bsetOf, bstOf, lsrOf, rorOf, swapOf}
 use Rattle.cores.specs.Transfer.{setDataOf, inOf, ldOf, stOf, ldsOf, lpmOf, popOf, pushOf, stsOf}
 use Rattle.execute.specs.declared.Outcome.{Outcome}
 use Rattle.execute.specs.declared.Done.{Done}
@@ -50,12 +50,12 @@ module _ (decode : ℕ → ℕ → Instruction) where
   executed k (AND d r) p m = ran (andOf k d (reg k r)) m
   executed k (ANDI d K) p m = ran (andOf k d K) m
   executed k (ASR d) p m = ran (asrOf k d) m
-  executed k (BCLR s) p m = ran (flagMadeOf k s false) m
+  executed k (BCLR s) p m = ran (bclrOf k s) m
   executed k (BLD d b) p m = ran (bldOf k d b) m
   executed k (BRBC s t) p m = ran (brbxOf k s t false) m
   executed k (BRBS s t) p m = ran (brbxOf k s t true) m
   executed k BREAK p m = did Break k m
-  executed k (BSET s) p m = ran (flagMadeOf k s true) m
+  executed k (BSET s) p m = ran (bsetOf k s) m
   executed k (BST d b) p m = ran (bstOf k d b) m
   executed k (CALL t) p m = ranOut (callOf k t m)
   executed k (CBI A b) p m = ran k (bitSetOf m A b false)

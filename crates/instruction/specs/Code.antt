@@ -1,5 +1,5 @@
--- Which instruction it is, whatever its fields; and 01's lists: those of two words, and those that touch registers alone.
-use mathlib.Core.Bool.{Bool, false, _||_}
+-- Which instruction it is, whatever its fields; 01's lists: those of two words, and those that touch registers alone; and, beside ADIW, those that 02's rule changes.
+use mathlib.Core.Bool.{Bool, false, _&&_, _||_}
 use mathlib.Core.List.{List, [], _∷_}
 use Prim.Native.Nat.{ℕ}
 use lib.Dec.{eqb}
@@ -113,3 +113,14 @@ isRegisterOnly =
     (ADC 0 0 ∷ ADD 0 0 ∷ ADIW 0 0 ∷ AND 0 0 ∷ ANDI 0 0 ∷ ASR 0 ∷ BCLR 0 ∷ BLD 0 0 ∷ BSET 0 ∷ BST 0 0 ∷ COM 0 ∷ CP 0 0 ∷ CPC 0 0 ∷ CPI 0 0 ∷ DEC 0 ∷ EOR 0 0 ∷
     FMUL 0 0 ∷ FMULS 0 0 ∷ FMULSU 0 0 ∷ INC 0 ∷ LDI 0 0 ∷ LSR 0 ∷ MOV 0 0 ∷ MOVW 0 0 ∷ MUL 0 0 ∷ MULS 0 0 ∷ MULSU 0 0 ∷ NEG 0 ∷ NOP ∷ OR 0 0 ∷ ORI 0 0 ∷ ROR 0 ∷
     SBC 0 0 ∷ SBCI 0 0 ∷ SBIW 0 0 ∷ SUB 0 0 ∷ SUBI 0 0 ∷ SWAP 0 ∷ [])
+
+-- 02, W4: "Pointer loads and stores": LD and LDD, ST and STD, in every form. LDS, STS, LPM, PUSH and POP go by no pointer
+abbrev pub isPointerLoad : Instruction → Bool
+isPointerLoad = oneOf (LDX 0 ∷ LDXinc 0 ∷ LDXdec 0 ∷ LDYinc 0 ∷ LDYdec 0 ∷ LDDY 0 0 ∷ LDZinc 0 ∷ LDZdec 0 ∷ LDDZ 0 0 ∷ [])
+
+abbrev pub isPointerStore : Instruction → Bool
+isPointerStore = oneOf (STX 0 ∷ STXinc 0 ∷ STXdec 0 ∷ STYinc 0 ∷ STYdec 0 ∷ STDY 0 0 ∷ STZinc 0 ∷ STZdec 0 ∷ STDZ 0 0 ∷ [])
+
+-- 02, W4: "BSET 7", which is SEI
+abbrev pub isSei : Instruction → Bool
+isSei i = oneOf (BSET 0 ∷ []) i && eqb (code i .1) 7

@@ -12,6 +12,7 @@ use Rattle.basis.proofs.Choice.{either}
 use Rattle.basis.specs.Bytes.{Bytes}
 use Rattle.alu.specs.Alu.{signedOf, halvedOf, doubledOf}
 use Rattle.alu.specs.declared.Sum.{Sum}
+use Rattle.rule.specs.Rule.{loadWaits, storeWaits}
 use Rattle.cores.specs.declared.Core.{Core}
 use Rattle.cores.specs.State.{Out, reg, word, flag, withReg, withWord, withSreg, withPc, withSp, withBusy, withService}
 use Rattle.cores.specs.Arithmetic.{sumFlags, summed, resulted, multiplied, fractional}
@@ -139,8 +140,9 @@ module _ (k : Core) (f : Fits k) (m : List ℕ) (b : Bytes m) where
   pub fits-ld : (d p q : ℕ) (dec inc : Bool) → Fits (ldOf k d p q dec inc m)
   fits-ld d p q dec inc =
       let at = pointedOf k p dec in
-      let k₁ = wordIf (withBusy k 2) dec p at in
-      let f₁ = fits-word-if (withBusy k 2) (fits-busy k f 2) dec p at (pointed-lt k f p dec) in
+      let n = loadWaits (k .chip) in
+      let k₁ = wordIf (withBusy k n) dec p at in
+      let f₁ = fits-word-if (withBusy k n) (fits-busy k f n) dec p at (pointed-lt k f p dec) in
       let x = dataOf k₁ (at + q) m in
       fits-word-if (withReg k₁ d x) (fits-reg k₁ f₁ d x (data-lt k₁ f₁ m b (at + q))) inc p (up at 1) (omega arith)
 
@@ -154,8 +156,9 @@ module _ (k : Core) (f : Fits k) (m : List ℕ) (b : Bytes m) where
   pub st-leaves : (r p q : ℕ) (dec inc : Bool) → OutFits (stOf k r p q dec inc m .core) (stOf k r p q dec inc m .bytes) m
   st-leaves r p q dec inc =
       let at = pointedOf k p dec in
-      let k₁ = wordIf (withBusy k 1) dec p at in
-      let f₁ = fits-word-if (withBusy k 1) (fits-busy k f 1) dec p at (pointed-lt k f p dec) in
+      let n = storeWaits (k .chip) in
+      let k₁ = wordIf (withBusy k n) dec p at in
+      let f₁ = fits-word-if (withBusy k n) (fits-busy k f n) dec p at (pointed-lt k f p dec) in
       let o = setDataOf k₁ (at + q) (reg k₁ r) m in
       let l = set-data-leaves k₁ f₁ m b (at + q) (reg k₁ r) (f₁ .reg-lt r) in
       record { core = fits-word-if (o .core) (l .core) inc p (up at 1) (omega arith); bytes = l .bytes; same-length = l .same-length }

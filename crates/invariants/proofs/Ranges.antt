@@ -11,11 +11,11 @@ use Rattle.alu.specs.Alu.{negative}
 use Rattle.instruction.specs.declared.Instruction.{Instruction}
 use Rattle.instruction.specs.declared.Instruction.the-variants.{ADC, ADD, ADIW, AND, ANDI, ASR, BCLR, BLD, BRBC, BRBS, BREAK, BSET, BST, CALL, CBI, COM, CP, CPC, CPI, CPSE, DEC, EOR, FMUL, FMULS, FMULSU, ICALL, IJMP, IN, INC, JMP, LDX, LDXinc, LDXdec, LDYinc, LDYdec, LDZinc, LDZdec, LDDY, LDDZ, LDI, LDS, LPM, LPMZ, LPMZinc, LSL, LSR, MOV, MOVW, MUL, MULS, MULSU, NEG, NOP, OR, ORI, OUT, POP, PUSH, RCALL, RET, RETI, RJMP, ROR, SBC, SBCI, SBI, SBIC, SBIS, SBIW, SBRC, SBRS, SLEEP, STX, STXdec, STXinc, STYdec, STYinc, STZdec, STZinc, STDY, STDZ, STS, SUB, SUBI, SWAP, WDR, UNDEF}
 use Rattle.cores.specs.declared.Core.{Core}
-use Rattle.cores.specs.State.{reg, flag, withReg}
+use Rattle.cores.specs.State.{reg, flag, withReg, withSreg}
 use Rattle.execute.specs.Execute.{executed}
 use Rattle.invariants.specs.Instructions.{ByteOperand, InstructionsStayInRange}
 use Rattle.invariants.proofs.Bounds.{cznvs-lt, cznvsh-lt, plus-lt, minus-lt, and-byte, or-byte, xor-byte}
-use Rattle.invariants.proofs.Fits.{Fits, fits-of, sound-of, fits-reg, fits-sreg, fits-word, reg-word-lt}
+use Rattle.invariants.proofs.Fits.{Fits, fits-of, sound-of, fits-reg, fits-sreg, fits-inhibit, fits-word, reg-word-lt}
 use Rattle.invariants.proofs.Handlers.{OutFits, unstored, stored, fits-summed, fits-resulted, fits-shifted, fits-flagged-word, fits-multiplied, fits-fractional, fits-jumped, fits-branch, fits-skip, fits-lpm, data-lt, set-data-leaves, fits-ret, fits-reti, fits-lds, fits-ld, fits-pop, st-leaves, sts-leaves, push-leaves, called-leaves}
 use Rattle.invariants.proofs.Waits.{instructions-wait-at-most-3}
 
@@ -33,7 +33,7 @@ leaves decode (BLD d b) k p m i f bp bm = unstored bm (fits-reg k f d _ (put-lt 
 leaves decode (BRBC s t) k p m i f bp bm = unstored bm (fits-branch k f s t _)
 leaves decode (BRBS s t) k p m i f bp bm = unstored bm (fits-branch k f s t _)
 leaves decode BREAK k p m i f bp bm = unstored bm f
-leaves decode (BSET s) k p m i f bp bm = unstored bm (fits-sreg k f _ (put-lt _ s _ (f .sreg-lt)))
+leaves decode (BSET s) k p m i f bp bm = unstored bm (fits-inhibit (withSreg k _) (fits-sreg k f _ (put-lt _ s _ (f .sreg-lt))) _)
 leaves decode (BST d b) k p m i f bp bm = unstored bm (fits-sreg k f _ (put-lt _ 6 _ (f .sreg-lt)))
 leaves decode (CALL t) k p m i f bp bm = called-leaves k f m bm _ _ 2 (omega arith) (omega arith)
 leaves decode (CBI A b) k p m i f bp bm = stored k m A _ bm (put-lt _ b _ (bm .byte-lt A)) f

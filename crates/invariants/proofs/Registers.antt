@@ -1,4 +1,4 @@
--- The registers that an instruction does not name stay, and one of the register-only list leaves all but registers, SREG and busy.
+-- The registers that an instruction does not name stay, and one of the register-only list leaves all but registers, SREG and busy, and inhibit to SEI under chip.
 -- Assumes nothing.
 use mathlib.Core.Path.{_≡_, refl, ap, subst, _∙_}
 use mathlib.Core.Bool.{Bool, true, false, Bool·beq}
@@ -18,7 +18,7 @@ use Rattle.cores.specs.Flow.{brbxOf, skipped}
 use Rattle.cores.specs.Transfer.{wordIf}
 use Rattle.cores.proofs.Space.{store-regs}
 use Rattle.execute.specs.Execute.{executed, ran}
-use Rattle.invariants.specs.Instructions.{Unnamed, restOf, OtherRegistersKept, RegisterOnlyKeepsTheRest}
+use Rattle.invariants.specs.Instructions.{Unnamed, restOf, inhibitedBy, OtherRegistersKept, RegisterOnlyKeepsTheRest}
 
 -- ---- one, two or three registers written, seen at another
 past-one : (k : Core) (i d v : ℕ) → Unnamed i (d ∷ []) → reg (withReg k d v) i ≡ reg k i
@@ -141,11 +141,11 @@ other-registers-kept decode UNDEF k p m i u = refl
 
 -- ---- the rest, of the register-only list
 abbrev Rest : Bool → (ℕ → ℕ → Instruction) → Instruction → Core → List ℕ → List ℕ → Type 0
-Rest true decode op k p m = restOf (executed decode k op p m) ≡ restOf (ran k m)
+Rest true decode op k p m = restOf (executed decode k op p m) ≡ restOf (ran (inhibitedBy op k) m)
 Rest false decode op k p m = Unit {0}
 
 rest : (decode : ℕ → ℕ → Instruction) (op : Instruction) (k : Core) (p m : List ℕ) → Rest (isRegisterOnly op) decode op k p m
-unfolding withReg withBusy
+unfolding withReg withBusy withInhibit
 rest decode (ADC d r) k p m = refl
 rest decode (ADD d r) k p m = refl
 rest decode (ADIW d K) k p m = refl

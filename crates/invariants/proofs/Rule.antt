@@ -1,6 +1,6 @@
--- The laws of specs/Rule.antt: every instruction but ADIW does the same under both rules, and so does a tick.
+-- The laws of specs/Rule.antt: every instruction that does not ask for the rule does the same under both, and so does a tick.
 -- Assumes nothing.
-use mathlib.Core.Path.{_≡_, refl, sym, ap, subst, _∙_}
+use mathlib.Core.Path.{_≡_, refl, sym, ap, subst}
 use mathlib.Core.Bool.{Bool, true, false, Bool·beq}
 use mathlib.Core.List.{List}
 use Prim.Native.Nat.{ℕ, _+_}
@@ -12,16 +12,17 @@ use Rattle.instruction.specs.Decode.{decodeOf}
 use Rattle.instruction.specs.declared.Instruction.{Instruction}
 use Rattle.instruction.specs.declared.Instruction.the-variants.{ADC, ADD, ADIW, AND, ANDI, ASR, BCLR, BLD, BRBC, BRBS, BREAK, BSET, BST, CALL, CBI, COM, CP, CPC, CPI, CPSE, DEC, EOR, FMUL, FMULS, FMULSU, ICALL, IJMP, IN, INC, JMP, LDX, LDXinc, LDXdec, LDYinc, LDYdec, LDZinc, LDZdec, LDDY, LDDZ, LDI, LDS, LPM, LPMZ, LPMZinc, LSL, LSR, MOV, MOVW, MUL, MULS, MULSU, NEG, NOP, OR, ORI, OUT, POP, PUSH, RCALL, RET, RETI, RJMP, ROR, SBC, SBCI, SBI, SBIC, SBIS, SBIW, SBRC, SBRS, SLEEP, STX, STXdec, STXinc, STYdec, STYinc, STZdec, STZinc, STDY, STDZ, STS, SUB, SUBI, SWAP, WDR, UNDEF}
 use Rattle.cores.specs.declared.Core.{Core}
-use Rattle.cores.specs.State.{Out, out, reg, flag, withReg, withPc, withSp, withBusy, withInhibit, withService, withChip}
+use Rattle.cores.specs.State.{Out, out, flag, withReg, withPc, withSp, withBusy, withInhibit, withService, withChip}
 use Rattle.cores.specs.Flow.{brbxOf, skipped, overSecond, opAt}
-use Rattle.cores.specs.Transfer.{dataOf, setDataOf, pointedOf, wordIf, stOf}
+use Rattle.cores.specs.Transfer.{dataOf, setDataOf, wordIf}
 use Rattle.execute.specs.Needs.{refusal, pushNeeds, needs, fetched, withFetch}
 use Rattle.execute.specs.Execute.{Executed, ran, ranOut, executed}
 use Rattle.tick.specs.declared.Offer.{Offer}
 use Rattle.tick.specs.declared.Offer.the-variants.{Vector, Nothing}
 use Rattle.tick.proofs.Steps.{onward, every-tick}
 use Rattle.tick.specs.Tick.{Tick, due, stepped, entersOrSteps, ticked}
-use Rattle.invariants.specs.Rule.{InstructionsKeepTheRule, TicksKeepTheRule, asksTheRule, under, RulesDifferWhereAsked}
+use Rattle.invariants.proofs.Controls.{instructions-keep-the-rule}
+use Rattle.invariants.specs.Rule.{TicksKeepTheRule, asksTheRule, under, RulesDifferWhereAsked}
 
 -- ---- an instruction's outcome, with this rule
 abbrev outUnder : Bool → Out → Out
@@ -55,27 +56,23 @@ unfolding wordIf withReg withChip
 word-alike k on true pointer to = refl
 word-alike k on false pointer to = refl
 
-st-alike : (k : Core) (on : Bool) (r pointer q : ℕ) (dec inc : Bool) (m : List ℕ) → stOf (withChip k on) r pointer q dec inc m ≡ outUnder on (stOf k r pointer q dec inc m)
-unfolding pointedOf withBusy withChip
-st-alike k on r pointer q dec inc m =
-    let at = pointedOf k pointer dec in
-    let j = wordIf (withBusy k 1) dec pointer at in
-    let o = setDataOf j (at + q) (reg j r) m in
-    ap (λ (i : Core). let x = setDataOf i (at + q) (reg i r) m in out (wordIf (x .core) inc pointer (up at 1)) (x .bytes)) (word-alike (withBusy k 1) on dec pointer at)
-    ∙ ap (λ (x : Out). out (wordIf (x .core) inc pointer (up at 1)) (x .bytes)) (data-alike j on (at + q) (reg j r) m)
-    ∙ ap (λ (i : Core). out i (o .bytes)) (word-alike (o .core) on inc pointer (up at 1))
-
--- ---- every instruction: it does and needs the same under both rules, or, where it asks for the rule, it keeps it
+-- ---- every instruction that does not ask for the rule does and needs the same under both
 module _ (decode : ℕ → ℕ → Instruction) (k : Core) (on : Bool) (p m : List ℕ) where
   abbrev Alike : Bool → Instruction → Type 0
-  Alike true op = executed decode k op p m .core .chip ≡ k .chip
+  Alike true op = Unit {0}
   Alike false op = (executed decode (withChip k on) op p m ≡ doneUnder on (executed decode k op p m)) × (needs decode (withChip k on) op p m ≡ needs decode k op p m)
 
+  -- SEI asks, the others of BSET do not
+  bset-alike : (s : ℕ) (sei : Bool) → eqb s 7 ≡ sei → Alike sei (BSET s)
+  unfolding withInhibit withChip
+  bset-alike s true e = tt
+  bset-alike s false e = (rw e, refl)
+
   alike : (op : Instruction) → Alike (asksTheRule op) op
-  unfolding withReg withPc withSp withBusy withInhibit withService withChip dataOf pointedOf wordIf
+  unfolding withReg withPc withSp withBusy withInhibit withService withChip dataOf wordIf
   alike (ADC d r) = (refl, refl)
   alike (ADD d r) = (refl, refl)
-  alike (ADIW d K) = refl
+  alike (ADIW d K) = tt
   alike (AND d r) = (refl, refl)
   alike (ANDI d K) = (refl, refl)
   alike (ASR d) = (refl, refl)
@@ -84,7 +81,7 @@ module _ (decode : ℕ → ℕ → Instruction) (k : Core) (on : Bool) (p m : Li
   alike (BRBC s t) = (ap (λ (j : Core). ran j m) (branch-alike k on s t false), refl)
   alike (BRBS s t) = (ap (λ (j : Core). ran j m) (branch-alike k on s t true), refl)
   alike BREAK = (refl, refl)
-  alike (BSET s) = (refl, refl)
+  alike (BSET s) = bset-alike s (eqb s 7) refl
   alike (BST d b) = (refl, refl)
   alike (CALL t) = (refl, refl)
   alike (CBI A b) = (refl, refl)
@@ -103,15 +100,15 @@ module _ (decode : ℕ → ℕ → Instruction) (k : Core) (on : Bool) (p m : Li
   alike (IN d A) = (refl, refl)
   alike (INC d) = (refl, refl)
   alike (JMP t) = (refl, refl)
-  alike (LDX d) = (refl, refl)
-  alike (LDXinc d) = (refl, refl)
-  alike (LDXdec d) = (refl, refl)
-  alike (LDYinc d) = (refl, refl)
-  alike (LDYdec d) = (refl, refl)
-  alike (LDZinc d) = (refl, refl)
-  alike (LDZdec d) = (refl, refl)
-  alike (LDDY d q) = (refl, refl)
-  alike (LDDZ d q) = (refl, refl)
+  alike (LDX d) = tt
+  alike (LDXinc d) = tt
+  alike (LDXdec d) = tt
+  alike (LDYinc d) = tt
+  alike (LDYdec d) = tt
+  alike (LDZinc d) = tt
+  alike (LDZdec d) = tt
+  alike (LDDY d q) = tt
+  alike (LDDZ d q) = tt
   alike (LDI d K) = (refl, refl)
   alike (LDS d at) = (refl, refl)
   alike LPM = (refl, refl)
@@ -145,29 +142,21 @@ module _ (decode : ℕ → ℕ → Instruction) (k : Core) (on : Bool) (p m : Li
   alike (SBRC r b) = (ap (λ (j : Core). ran j m) (skip-alike k on _ _), refl)
   alike (SBRS r b) = (ap (λ (j : Core). ran j m) (skip-alike k on _ _), refl)
   alike SLEEP = (refl, refl)
-  alike (STX r) = (ap ranOut (st-alike k on r 26 0 false false m), refl)
-  alike (STXdec r) = (ap ranOut (st-alike k on r 26 0 true false m), refl)
-  alike (STXinc r) = (ap ranOut (st-alike k on r 26 0 false true m), refl)
-  alike (STYdec r) = (ap ranOut (st-alike k on r 28 0 true false m), refl)
-  alike (STYinc r) = (ap ranOut (st-alike k on r 28 0 false true m), refl)
-  alike (STZdec r) = (ap ranOut (st-alike k on r 30 0 true false m), refl)
-  alike (STZinc r) = (ap ranOut (st-alike k on r 30 0 false true m), refl)
-  alike (STDY q r) = (ap ranOut (st-alike k on r 28 q false false m), refl)
-  alike (STDZ q r) = (ap ranOut (st-alike k on r 30 q false false m), refl)
+  alike (STX r) = tt
+  alike (STXdec r) = tt
+  alike (STXinc r) = tt
+  alike (STYdec r) = tt
+  alike (STYinc r) = tt
+  alike (STZdec r) = tt
+  alike (STZinc r) = tt
+  alike (STDY q r) = tt
+  alike (STDZ q r) = tt
   alike (STS at r) = (ap (λ (o : Out). ran (overSecond (o .core)) (o .bytes)) (data-alike (withBusy k 1) on _ _ m), refl)
   alike (SUB d r) = (refl, refl)
   alike (SUBI d K) = (refl, refl)
   alike (SWAP d) = (refl, refl)
   alike WDR = (refl, refl)
   alike UNDEF = (refl, refl)
-
-pub instructions-keep-the-rule : InstructionsKeepTheRule
-unfolding withChip
-instructions-keep-the-rule decode op k p m = by (asksTheRule op) (alike decode k (k .chip) p m op)
-  where
-    by : (asks : Bool) → Alike decode k (k .chip) p m asks op → executed decode k op p m .core .chip ≡ k .chip
-    by true e = e
-    by false (e, _) = ap (λ (x : Executed). x .core .chip) e
 
 pub ticks-keep-the-rule : TicksKeepTheRule
 unfolding withPc withSp withBusy withInhibit withService

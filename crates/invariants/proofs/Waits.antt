@@ -10,6 +10,7 @@ use Rattle.basis.proofs.Bits.{one-le}
 use Rattle.basis.proofs.Choice.{either}
 use Rattle.alu.specs.Alu.{signedOf}
 use Rattle.instruction.specs.declared.Instruction.the-variants.{ADC, ADD, ADIW, AND, ANDI, ASR, BCLR, BLD, BRBC, BRBS, BREAK, BSET, BST, CALL, CBI, COM, CP, CPC, CPI, CPSE, DEC, EOR, FMUL, FMULS, FMULSU, ICALL, IJMP, IN, INC, JMP, LDX, LDXinc, LDXdec, LDYinc, LDYdec, LDZinc, LDZdec, LDDY, LDDZ, LDI, LDS, LPM, LPMZ, LPMZinc, LSL, LSR, MOV, MOVW, MUL, MULS, MULSU, NEG, NOP, OR, ORI, OUT, POP, PUSH, RCALL, RET, RETI, RJMP, ROR, SBC, SBCI, SBI, SBIC, SBIS, SBIW, SBRC, SBRS, SLEEP, STX, STXdec, STXinc, STYdec, STYinc, STZdec, STZinc, STDY, STDZ, STS, SUB, SUBI, SWAP, WDR, UNDEF}
+use Rattle.rule.specs.Rule.{loadWaits, storeWaits}
 use Rattle.cores.specs.declared.Core.{Core}
 use Rattle.cores.specs.State.{Out, flag, withReg, withPc, withSp, withBusy, withInhibit, withService}
 use Rattle.cores.specs.Flow.{brbxOf, skipped}
@@ -31,6 +32,15 @@ unfolding setDataOf withSp
 store-waits k at v m n h =
     let P : Out → Type 0 = λ o. o .core .busy ≤ n in
     either P (eqb at 0x3F) _ _ h (either P (eqb at 0x3E) _ _ h (either P (eqb at 0x3D) _ _ h h))
+
+-- ---- pointer access, by the rule
+load-le : (chip : Bool) → loadWaits chip ≤ 2
+unfolding loadWaits
+load-le chip = either (λ n. n ≤ 2) chip 1 2 (omega arith) (omega arith)
+
+store-le : (chip : Bool) → storeWaits chip ≤ 1
+unfolding storeWaits
+store-le chip = either (λ n. n ≤ 1) chip 0 1 (omega arith) (omega arith)
 
 -- ---- the table
 pub instructions-wait-at-most-3 : InstructionsWaitAtMost3
@@ -65,15 +75,15 @@ instructions-wait-at-most-3 decode IJMP k p m n g h = omega arith
 instructions-wait-at-most-3 decode (IN d A) k p m n g h = h
 instructions-wait-at-most-3 decode (INC d) k p m n g h = h
 instructions-wait-at-most-3 decode (JMP t) k p m n g h = omega arith
-instructions-wait-at-most-3 decode (LDX d) k p m n g h = omega arith
-instructions-wait-at-most-3 decode (LDXinc d) k p m n g h = omega arith
-instructions-wait-at-most-3 decode (LDXdec d) k p m n g h = omega arith
-instructions-wait-at-most-3 decode (LDYinc d) k p m n g h = omega arith
-instructions-wait-at-most-3 decode (LDYdec d) k p m n g h = omega arith
-instructions-wait-at-most-3 decode (LDZinc d) k p m n g h = omega arith
-instructions-wait-at-most-3 decode (LDZdec d) k p m n g h = omega arith
-instructions-wait-at-most-3 decode (LDDY d q) k p m n g h = omega arith
-instructions-wait-at-most-3 decode (LDDZ d q) k p m n g h = omega arith
+instructions-wait-at-most-3 decode (LDX d) k p m n g h = omega (arith, load-le (k .chip))
+instructions-wait-at-most-3 decode (LDXinc d) k p m n g h = omega (arith, load-le (k .chip))
+instructions-wait-at-most-3 decode (LDXdec d) k p m n g h = omega (arith, load-le (k .chip))
+instructions-wait-at-most-3 decode (LDYinc d) k p m n g h = omega (arith, load-le (k .chip))
+instructions-wait-at-most-3 decode (LDYdec d) k p m n g h = omega (arith, load-le (k .chip))
+instructions-wait-at-most-3 decode (LDZinc d) k p m n g h = omega (arith, load-le (k .chip))
+instructions-wait-at-most-3 decode (LDZdec d) k p m n g h = omega (arith, load-le (k .chip))
+instructions-wait-at-most-3 decode (LDDY d q) k p m n g h = omega (arith, load-le (k .chip))
+instructions-wait-at-most-3 decode (LDDZ d q) k p m n g h = omega (arith, load-le (k .chip))
 instructions-wait-at-most-3 decode (LDI d K) k p m n g h = h
 instructions-wait-at-most-3 decode (LDS d at) k p m n g h = omega arith
 instructions-wait-at-most-3 decode LPM k p m n g h = omega arith
@@ -107,15 +117,15 @@ instructions-wait-at-most-3 decode (SBIW d K) k p m n g h = omega arith
 instructions-wait-at-most-3 decode (SBRC r b) k p m n g h = skip-waits k _ _ n (omega arith) h
 instructions-wait-at-most-3 decode (SBRS r b) k p m n g h = skip-waits k _ _ n (omega arith) h
 instructions-wait-at-most-3 decode SLEEP k p m n g h = h
-instructions-wait-at-most-3 decode (STX r) k p m n g h = store-waits _ _ _ m n (omega arith)
-instructions-wait-at-most-3 decode (STXdec r) k p m n g h = store-waits _ _ _ m n (omega arith)
-instructions-wait-at-most-3 decode (STXinc r) k p m n g h = store-waits _ _ _ m n (omega arith)
-instructions-wait-at-most-3 decode (STYdec r) k p m n g h = store-waits _ _ _ m n (omega arith)
-instructions-wait-at-most-3 decode (STYinc r) k p m n g h = store-waits _ _ _ m n (omega arith)
-instructions-wait-at-most-3 decode (STZdec r) k p m n g h = store-waits _ _ _ m n (omega arith)
-instructions-wait-at-most-3 decode (STZinc r) k p m n g h = store-waits _ _ _ m n (omega arith)
-instructions-wait-at-most-3 decode (STDY q r) k p m n g h = store-waits _ _ _ m n (omega arith)
-instructions-wait-at-most-3 decode (STDZ q r) k p m n g h = store-waits _ _ _ m n (omega arith)
+instructions-wait-at-most-3 decode (STX r) k p m n g h = store-waits _ _ _ m n (omega (arith, store-le (k .chip)))
+instructions-wait-at-most-3 decode (STXdec r) k p m n g h = store-waits _ _ _ m n (omega (arith, store-le (k .chip)))
+instructions-wait-at-most-3 decode (STXinc r) k p m n g h = store-waits _ _ _ m n (omega (arith, store-le (k .chip)))
+instructions-wait-at-most-3 decode (STYdec r) k p m n g h = store-waits _ _ _ m n (omega (arith, store-le (k .chip)))
+instructions-wait-at-most-3 decode (STYinc r) k p m n g h = store-waits _ _ _ m n (omega (arith, store-le (k .chip)))
+instructions-wait-at-most-3 decode (STZdec r) k p m n g h = store-waits _ _ _ m n (omega (arith, store-le (k .chip)))
+instructions-wait-at-most-3 decode (STZinc r) k p m n g h = store-waits _ _ _ m n (omega (arith, store-le (k .chip)))
+instructions-wait-at-most-3 decode (STDY q r) k p m n g h = store-waits _ _ _ m n (omega (arith, store-le (k .chip)))
+instructions-wait-at-most-3 decode (STDZ q r) k p m n g h = store-waits _ _ _ m n (omega (arith, store-le (k .chip)))
 instructions-wait-at-most-3 decode (STS at r) k p m n g h = store-waits _ _ _ m n (omega arith)
 instructions-wait-at-most-3 decode (SUB d r) k p m n g h = h
 instructions-wait-at-most-3 decode (SUBI d K) k p m n g h = h

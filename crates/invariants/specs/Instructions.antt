@@ -1,15 +1,16 @@
--- What every instruction keeps: ranges, the registers that it does not name, and, of 01's register-only list, all else.
+-- What every instruction keeps: ranges, the registers that it does not name, and, of 01's register-only list, all else, but for SEI's inhibit; and which touch the two flags.
 use mathlib.Core.Path.{_≡_}
-use mathlib.Core.Bool.{Bool, true}
+use mathlib.Core.Bool.{Bool, true, false, _&&_, _||_}
 use mathlib.Core.List.{List, [], _∷_}
 use Prim.Native.Nat.{ℕ, _+_, _≤_, _<_}
 use lib.ListN.{length}
+use Rattle.basis.specs.Pick.{pick}
 use Rattle.basis.specs.Bytes.{Bytes}
 use Rattle.instruction.specs.declared.Instruction.{Instruction}
 use Rattle.instruction.specs.declared.Instruction.the-variants.{ADC, ADD, ADIW, AND, ANDI, ASR, BCLR, BLD, BRBC, BRBS, BREAK, BSET, BST, CALL, CBI, COM, CP, CPC, CPI, CPSE, DEC, EOR, FMUL, FMULS, FMULSU, ICALL, IJMP, IN, INC, JMP, LDX, LDXinc, LDXdec, LDYinc, LDYdec, LDZinc, LDZdec, LDDY, LDDZ, LDI, LDS, LPM, LPMZ, LPMZinc, LSL, LSR, MOV, MOVW, MUL, MULS, MULSU, NEG, NOP, OR, ORI, OUT, POP, PUSH, RCALL, RET, RETI, RJMP, ROR, SBC, SBCI, SBI, SBIC, SBIS, SBIW, SBRC, SBRS, SLEEP, STX, STXdec, STXinc, STYdec, STYinc, STZdec, STZinc, STDY, STDZ, STS, SUB, SUBI, SWAP, WDR, UNDEF}
-use Rattle.instruction.specs.Code.{isRegisterOnly}
+use Rattle.instruction.specs.Code.{oneOf, isRegisterOnly, isSei}
 use Rattle.cores.specs.declared.Core.{Core}
-use Rattle.cores.specs.State.{reg, Sound}
+use Rattle.cores.specs.State.{reg, withInhibit, Sound}
 use Rattle.execute.specs.declared.Done.{Done}
 use Rattle.execute.specs.Execute.{Executed, executed, ran}
 
@@ -123,6 +124,10 @@ pub record InRange (k : Core) (m before : List ℕ) : Type 0 where
 abbrev pub restOf : Executed → Done × ℕ × ℕ × Bool × Bool × Bool × List ℕ
 restOf e = (e .done, e .core .pc, e .core .sp, e .core .inhibit, e .core .«in_service», e .core .chip, e .bytes)
 
+-- core k, with inhibit set where op is SEI and the rule chip. 02, W4: "Under the chip rule BSET 7 sets inhibit as RETI does"
+abbrev pub inhibitedBy : Instruction → Core → Core
+inhibitedBy op k = withInhibit k ((isSei op && k .chip) || k .inhibit)
+
 -- ---- the laws, of every instruction op on core k with program p and data m, whatever decodes the word to be skipped
 -- from a core and bytes by their types to a core and bytes by their types: 32 registers and SREG below 256, PC and SP below 65,536
 abbrev pub InstructionsStayInRange : Type 0
@@ -141,8 +146,16 @@ OtherRegistersKept =
     (decode : ℕ → ℕ → Instruction) (op : Instruction) (k : Core) (p m : List ℕ) (i : ℕ) → Unnamed i (writes op)
     → reg (executed decode k op p m .core) i ≡ reg k i
 
--- one of the register-only list runs and changes nothing but registers, SREG and busy
+-- one of the register-only list runs and changes nothing but registers, SREG and busy; SEI under chip sets inhibit too
 abbrev pub RegisterOnlyKeepsTheRest : Type 0
 RegisterOnlyKeepsTheRest =
     (decode : ℕ → ℕ → Instruction) (op : Instruction) (k : Core) (p m : List ℕ) → isRegisterOnly op ≡ true
-    → restOf (executed decode k op p m) ≡ restOf (ran k m)
+    → restOf (executed decode k op p m) ≡ restOf (ran (inhibitedBy op k) m)
+
+-- the two flags, of the core j that is left: "RETI also clears in-service and sets inhibit", and under chip SEI sets inhibit. No other instruction touches either, also where it
+-- writes I into SREG
+abbrev pub OnlyRetiAndSeiTouchTheFlags : Type 0
+OnlyRetiAndSeiTouchTheFlags =
+    (decode : ℕ → ℕ → Instruction) (op : Instruction) (k : Core) (p m : List ℕ)
+    → let j = executed decode k op p m .core in
+    (j .inhibit ≡ (oneOf (RETI ∷ []) op || (isSei op && k .chip) || k .inhibit)) × (j .«in_service» ≡ pick (oneOf (RETI ∷ []) op) false (k .«in_service»))

@@ -1,9 +1,9 @@
 -- Whatever the switches, an instruction does what it does with them as a rule sets them, changed as specs/Differences.antt says.
 -- Assumes nothing.
-use mathlib.Core.Path.{_≡_, refl, ap}
+use mathlib.Core.Path.{_≡_, refl, ap, _∙_}
 use mathlib.Core.Bool.{Bool, true, false, not, _||_}
 use mathlib.Core.List.{List}
-use Prim.Native.Nat.{ℕ, _+_, _%_, _<_}
+use Prim.Native.Nat.{ℕ, _+_, _%_, _-_, _<_}
 use lib.Dec.{eqb}
 use Rattle.basis.specs.Pick.{pick}
 use Rattle.basis.specs.Bit.{up, down}
@@ -57,56 +57,62 @@ module _ (k : Core) (d K : ℕ) (m : List ℕ) (h : k .sreg < 256) where
   adiw-by false true = adiw-again (reg k (d + 1) ! 7) (reg k d)
   adiw-by false false = refl
 
--- ---- pointer loads
-load-by : (on : Bool) (k : Core) (d P q : ℕ) (m : List ℕ) → ran (load (pick on 3 2) k d P q m) m ≡ pick on (ran (load 3 k d P q m) m) (waits (pick on 2 1) (ran (load 3 k d P q m) m))
+-- ---- pointer loads, by the switch as it was and as it is
+load-by : (was on : Bool) (k : Core) (d P q : ℕ) (m : List ℕ)
+    → let page : Bool → Says = λ b. ran (load (pick b 3 2) k d P q m) m in page on ≡ asSet was on (page was) (waits (pick on 2 1) (page was))
 unfolding load next withBusy withPc withReg
-load-by true k d P q m = refl
-load-by false k d P q m = refl
+load-by true true k d P q m = refl
+load-by true false k d P q m = refl
+load-by false true k d P q m = refl
+load-by false false k d P q m = refl
 
-load-inc-by : (on : Bool) (k : Core) (d P : ℕ) (m : List ℕ) → ran (loadInc (pick on 3 2) k d P m) m ≡ pick on (ran (loadInc 3 k d P m) m) (waits (pick on 2 1) (ran (loadInc 3 k d P m) m))
+load-inc-by : (was on : Bool) (k : Core) (d P : ℕ) (m : List ℕ)
+    → let page : Bool → Says = λ b. ran (loadInc (pick b 3 2) k d P m) m in page on ≡ asSet was on (page was) (waits (pick on 2 1) (page was))
 unfolding loadInc next withBusy withPc withReg
-load-inc-by true k d P m = refl
-load-inc-by false k d P m = refl
+load-inc-by true true k d P m = refl
+load-inc-by true false k d P m = refl
+load-inc-by false true k d P m = refl
+load-inc-by false false k d P m = refl
 
-load-dec-by : (on : Bool) (k : Core) (d P : ℕ) (m : List ℕ) → ran (loadDec (pick on 3 2) k d P m) m ≡ pick on (ran (loadDec 3 k d P m) m) (waits (pick on 2 1) (ran (loadDec 3 k d P m) m))
+load-dec-by : (was on : Bool) (k : Core) (d P : ℕ) (m : List ℕ)
+    → let page : Bool → Says = λ b. ran (loadDec (pick b 3 2) k d P m) m in page on ≡ asSet was on (page was) (waits (pick on 2 1) (page was))
 unfolding loadDec next withBusy withPc withReg dataOf
-load-dec-by true k d P m = refl
-load-dec-by false k d P m = refl
+load-dec-by true true k d P m = refl
+load-dec-by true false k d P m = refl
+load-dec-by false true k d P m = refl
+load-dec-by false false k d P m = refl
 
 -- ---- pointer stores
-sooner : (k : Core) → next k 1 1 ≡ withBusy (next k 1 2) 0
+-- c cycles, made of any others
+cycles : (k : Core) (c other : ℕ) → next k 1 c ≡ withBusy (next k 1 other) (c - 1)
 unfolding next withBusy
-sooner k = refl
+cycles k c other = refl
 
-abbrev unwaited : Out → Out
-unwaited o = out (withBusy (o .core) 0) (o .bytes)
+abbrev waited : ℕ → Out → Out
+waited n o = out (withBusy (o .core) n) (o .bytes)
 
-store-sooner : (k : Core) (r P q : ℕ) (m : List ℕ) → store 1 k r P q m ≡ unwaited (store 2 k r P q m)
+store-cycles : (c other : ℕ) (k : Core) (r P q : ℕ) (m : List ℕ) → store c k r P q m ≡ waited (c - 1) (store other k r P q m)
 unfolding store
-store-sooner k r P q m = rw (sooner k) (stored-busy (next k 1 2) 0 (word k P + q) (reg k r) m)
+store-cycles c other k r P q m = rw (cycles k c other) (stored-busy (next k 1 other) (c - 1) (word k P + q) (reg k r) m)
 
-store-inc-sooner : (k : Core) (r P : ℕ) (m : List ℕ) → storeInc 1 k r P m ≡ unwaited (storeInc 2 k r P m)
+store-inc-cycles : (c other : ℕ) (k : Core) (r P : ℕ) (m : List ℕ) → storeInc c k r P m ≡ waited (c - 1) (storeInc other k r P m)
 unfolding storeInc withReg withBusy
-store-inc-sooner k r P m = rw (sooner k, stored-busy (next k 1 2) 0 (word k P) (reg k r) m)
+store-inc-cycles c other k r P m = rw (cycles k c other, stored-busy (next k 1 other) (c - 1) (word k P) (reg k r) m)
 
-store-dec-sooner : (k : Core) (r P : ℕ) (m : List ℕ) → storeDec 1 k r P m ≡ unwaited (storeDec 2 k r P m)
+store-dec-cycles : (c other : ℕ) (k : Core) (r P : ℕ) (m : List ℕ) → storeDec c k r P m ≡ waited (c - 1) (storeDec other k r P m)
 unfolding storeDec withReg withBusy
-store-dec-sooner k r P m =
+store-dec-cycles c other k r P m =
     let a = down (word k P) 1 in
-    let k₁ = withWord (next k 1 2) P a in
-    rw (sooner k) (stored-busy k₁ 0 a (reg k₁ r) m)
+    let k₁ = withWord (next k 1 other) P a in
+    rw (cycles k c other) (stored-busy k₁ (c - 1) a (reg k₁ r) m)
 
-store-by : (on : Bool) (k : Core) (r P q : ℕ) (m : List ℕ) → ranOut (store (pick on 2 1) k r P q m) ≡ pick on (ranOut (store 2 k r P q m)) (waits (pick on 1 0) (ranOut (store 2 k r P q m)))
-store-by true k r P q m = refl
-store-by false k r P q m = ap ranOut (store-sooner k r P q m)
-
-store-inc-by : (on : Bool) (k : Core) (r P : ℕ) (m : List ℕ) → ranOut (storeInc (pick on 2 1) k r P m) ≡ pick on (ranOut (storeInc 2 k r P m)) (waits (pick on 1 0) (ranOut (storeInc 2 k r P m)))
-store-inc-by true k r P m = refl
-store-inc-by false k r P m = ap ranOut (store-inc-sooner k r P m)
-
-store-dec-by : (on : Bool) (k : Core) (r P : ℕ) (m : List ℕ) → ranOut (storeDec (pick on 2 1) k r P m) ≡ pick on (ranOut (storeDec 2 k r P m)) (waits (pick on 1 0) (ranOut (storeDec 2 k r P m)))
-store-dec-by true k r P m = refl
-store-dec-by false k r P m = ap ranOut (store-dec-sooner k r P m)
+-- a store in c cycles, whatever its form, by the switch as it was and as it is
+store-by : (page : ℕ → Out) → ((c other : ℕ) → page c ≡ waited (c - 1) (page other)) → (was on : Bool)
+    → let said : Bool → Says = λ b. ranOut (page (pick b 2 1)) in said on ≡ asSet was on (said was) (waits (pick on 1 0) (said was))
+store-by page h true true = refl
+store-by page h true false = ap ranOut (h 1 2)
+store-by page h false true = ap ranOut (h 2 1)
+store-by page h false false = refl
 
 -- ---- the others
 -- through a stepped pointer
@@ -116,11 +122,23 @@ defined-by true false e = e
 defined-by false true e = refl
 defined-by false false e = e
 
-sei-by : (on t : Bool) (k : Core) (m : List ℕ) → ran (pick (on || not t) k (withInhibit k true)) m ≡ pick t (pick on (ran k m) (inhibits (not on) (ran k m))) (ran k m)
-sei-by true true k m = refl
-sei-by true false k m = refl
-sei-by false true k m = refl
-sei-by false false k m = refl
+next-inhibit : (k : Core) → next k 1 1 .inhibit ≡ k .inhibit
+unfolding next withBusy withPc
+next-inhibit k = refl
+
+-- SEI, from a core with inhibit clear
+sei-by : (was on t : Bool) (k : Core) (m : List ℕ) → k .inhibit ≡ false
+    → let page : Bool → Says = λ b. ran (pick (b || not t) k (withInhibit k true)) m in
+    page on ≡ pick t (asSet was on (page was) (inhibits (not on) (page was))) (page was)
+unfolding withInhibit
+sei-by true true true k m h = refl
+sei-by true false true k m h = refl
+sei-by false true true k m h = ap (λ (b : Bool). ran (withInhibit k b) m) h
+sei-by false false true k m h = refl
+sei-by true true false k m h = refl
+sei-by true false false k m h = refl
+sei-by false true false k m h = refl
+sei-by false false false k m h = refl
 
 answer-by : (on : Bool) (a : Answer) (k : Core) (m : List ℕ) → says (pick on a Ran) k m ≡ pick on (says a k m) (says Ran k m)
 answer-by true a k m = refl
@@ -139,7 +157,7 @@ jmp-by true k t m = refl
 jmp-by false k t m = refl
 
 -- ---- every instruction
-module _ (chip : Bool) (s : Switches) (two : Bool) (k : Core) (p m : List ℕ) (h : k .sreg < 256) where
+module _ (chip : Bool) (s : Switches) (two : Bool) (k : Core) (p m : List ℕ) (h : k .sreg < 256) (calm : k .inhibit ≡ false) where
   pub instruction-changed : (i : Instruction) → instruction s two k i p m ≡ changed chip s k i (instruction (base chip) two k i p m)
   unfolding adiw break bset call jmp sleep wdr changed
   instruction-changed (ADC d r) = refl
@@ -153,7 +171,7 @@ module _ (chip : Bool) (s : Switches) (two : Bool) (k : Core) (p m : List ℕ) (
   instruction-changed (BRBC b o) = refl
   instruction-changed (BRBS b o) = refl
   instruction-changed BREAK = answer-by (s outside) Break (next k 1 1) m
-  instruction-changed (BSET b) = sei-by (s afterSei) (eqb b 7) (withSreg (next k 1 1) (bitTo (k .sreg) b true)) m
+  instruction-changed (BSET b) = sei-by (base chip afterSei) (s afterSei) (eqb b 7) (withSreg (next k 1 1) (bitTo (k .sreg) b true)) m (next-inhibit k ∙ calm)
   instruction-changed (BST d b) = refl
   instruction-changed (CALL t) = call-by (s target) k t m
   instruction-changed (CBI A b) = refl
@@ -172,15 +190,15 @@ module _ (chip : Bool) (s : Switches) (two : Bool) (k : Core) (p m : List ℕ) (
   instruction-changed (IN d A) = refl
   instruction-changed (INC d) = refl
   instruction-changed (JMP t) = jmp-by (s target) k t m
-  instruction-changed (LDX d) = load-by (s loads) k d X 0 m
-  instruction-changed (LDXinc d) = defined-by (s pointers) (isIn d X) (load-inc-by (s loads) k d X m)
-  instruction-changed (LDXdec d) = defined-by (s pointers) (isIn d X) (load-dec-by (s loads) k d X m)
-  instruction-changed (LDYinc d) = defined-by (s pointers) (isIn d Y) (load-inc-by (s loads) k d Y m)
-  instruction-changed (LDYdec d) = defined-by (s pointers) (isIn d Y) (load-dec-by (s loads) k d Y m)
-  instruction-changed (LDZinc d) = defined-by (s pointers) (isIn d Z) (load-inc-by (s loads) k d Z m)
-  instruction-changed (LDZdec d) = defined-by (s pointers) (isIn d Z) (load-dec-by (s loads) k d Z m)
-  instruction-changed (LDDY d q) = load-by (s loads) k d Y q m
-  instruction-changed (LDDZ d q) = load-by (s loads) k d Z q m
+  instruction-changed (LDX d) = load-by (base chip loads) (s loads) k d X 0 m
+  instruction-changed (LDXinc d) = defined-by (s pointers) (isIn d X) (load-inc-by (base chip loads) (s loads) k d X m)
+  instruction-changed (LDXdec d) = defined-by (s pointers) (isIn d X) (load-dec-by (base chip loads) (s loads) k d X m)
+  instruction-changed (LDYinc d) = defined-by (s pointers) (isIn d Y) (load-inc-by (base chip loads) (s loads) k d Y m)
+  instruction-changed (LDYdec d) = defined-by (s pointers) (isIn d Y) (load-dec-by (base chip loads) (s loads) k d Y m)
+  instruction-changed (LDZinc d) = defined-by (s pointers) (isIn d Z) (load-inc-by (base chip loads) (s loads) k d Z m)
+  instruction-changed (LDZdec d) = defined-by (s pointers) (isIn d Z) (load-dec-by (base chip loads) (s loads) k d Z m)
+  instruction-changed (LDDY d q) = load-by (base chip loads) (s loads) k d Y q m
+  instruction-changed (LDDZ d q) = load-by (base chip loads) (s loads) k d Z q m
   instruction-changed (LDI d K) = refl
   instruction-changed (LDS d a) = refl
   instruction-changed LPM = refl
@@ -214,15 +232,15 @@ module _ (chip : Bool) (s : Switches) (two : Bool) (k : Core) (p m : List ℕ) (
   instruction-changed (SBRC r b) = refl
   instruction-changed (SBRS r b) = refl
   instruction-changed SLEEP = refl
-  instruction-changed (STX r) = store-by (s stores) k r X 0 m
-  instruction-changed (STXdec r) = defined-by (s pointers) (isIn r X) (store-dec-by (s stores) k r X m)
-  instruction-changed (STXinc r) = defined-by (s pointers) (isIn r X) (store-inc-by (s stores) k r X m)
-  instruction-changed (STYdec r) = defined-by (s pointers) (isIn r Y) (store-dec-by (s stores) k r Y m)
-  instruction-changed (STYinc r) = defined-by (s pointers) (isIn r Y) (store-inc-by (s stores) k r Y m)
-  instruction-changed (STZdec r) = defined-by (s pointers) (isIn r Z) (store-dec-by (s stores) k r Z m)
-  instruction-changed (STZinc r) = defined-by (s pointers) (isIn r Z) (store-inc-by (s stores) k r Z m)
-  instruction-changed (STDY q r) = store-by (s stores) k r Y q m
-  instruction-changed (STDZ q r) = store-by (s stores) k r Z q m
+  instruction-changed (STX r) = store-by (λ c. store c k r X 0 m) (λ c other. store-cycles c other k r X 0 m) (base chip stores) (s stores)
+  instruction-changed (STXdec r) = defined-by (s pointers) (isIn r X) (store-by (λ c. storeDec c k r X m) (λ c other. store-dec-cycles c other k r X m) (base chip stores) (s stores))
+  instruction-changed (STXinc r) = defined-by (s pointers) (isIn r X) (store-by (λ c. storeInc c k r X m) (λ c other. store-inc-cycles c other k r X m) (base chip stores) (s stores))
+  instruction-changed (STYdec r) = defined-by (s pointers) (isIn r Y) (store-by (λ c. storeDec c k r Y m) (λ c other. store-dec-cycles c other k r Y m) (base chip stores) (s stores))
+  instruction-changed (STYinc r) = defined-by (s pointers) (isIn r Y) (store-by (λ c. storeInc c k r Y m) (λ c other. store-inc-cycles c other k r Y m) (base chip stores) (s stores))
+  instruction-changed (STZdec r) = defined-by (s pointers) (isIn r Z) (store-by (λ c. storeDec c k r Z m) (λ c other. store-dec-cycles c other k r Z m) (base chip stores) (s stores))
+  instruction-changed (STZinc r) = defined-by (s pointers) (isIn r Z) (store-by (λ c. storeInc c k r Z m) (λ c other. store-inc-cycles c other k r Z m) (base chip stores) (s stores))
+  instruction-changed (STDY q r) = store-by (λ c. store c k r Y q m) (λ c other. store-cycles c other k r Y q m) (base chip stores) (s stores)
+  instruction-changed (STDZ q r) = store-by (λ c. store c k r Z q m) (λ c other. store-cycles c other k r Z q m) (base chip stores) (s stores)
   instruction-changed (STS a r) = refl
   instruction-changed (SUB d r) = refl
   instruction-changed (SUBI d K) = refl

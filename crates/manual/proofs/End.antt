@@ -63,7 +63,7 @@ module _ (s : Switches) (p m : List ℕ) (k : Core) where
       let i = opcodeAt p (k .pc) in
       let two = twoWords (opcodeAt p (k .pc + 1)) in
       let n = withFetch (fetched p (k .pc) i) (needs decodeOf (withPc j (k .pc + 1)) i p m) in
-      ap (λ (x : Says). unless n k m x) (instruction-changed (k .chip) s two j p m h i ∙ sym (instruction-changed (k .chip) (withEnd s) two j p m h i))
+      ap (λ (x : Says). unless n k m x) (instruction-changed (k .chip) s two j p m h refl i ∙ sym (instruction-changed (k .chip) (withEnd s) two j p m h refl i))
 
   -- e: the switch; a: PC is 65,535
   end-by : (e a : Bool) (x y : Says) (t : Tick) → e ≡ false → x ≡ y → ended t ≡ false

@@ -23,7 +23,7 @@ use Rattle.execute.specs.Execute.{executed}
 use Rattle.tick.specs.Tick.{executedTick}
 use Rattle.manual.specs.Notation.{_!_, bar}
 use Rattle.manual.specs.Switches.{base, ran, ranOut}
-use Rattle.manual.specs.AdcToCpse.{break, bset, cbi}
+use Rattle.manual.specs.AdcToCpse.{break, cbi}
 use Rattle.manual.specs.DecToLsr.{in-, ldi}
 use Rattle.manual.specs.MovToRor.{mov, movw, nop, out-}
 use Rattle.manual.specs.SbcToWdr.{sbi, sleep, swap, wdr}
@@ -67,7 +67,7 @@ data-bit-false m A b e h = rw e (bit-false (getD m A 0) b h)
 module _ (k : Core) (w : Ready k) (p m : List ℕ) (mm : Bytes m) where
   pub instruction-with : (i : Instruction) → InFields i → Granted (needs decodeOf (on k) i p m)
       → instruction (base (k .chip)) (twoAt decodeOf (on k) p) k i p m ≡ told (executedTick (executed decodeOf (on k) i p m))
-  unfolding withPc dataOf break bset cbi in- ldi mov movw nop out- sbi sleep swap wdr
+  unfolding withPc dataOf break cbi in- ldi mov movw nop out- sbi sleep swap wdr
   instruction-with (ADC d r) f h = ap (λ (c : Core). ran c m) (adc-is k w d r)
   instruction-with (ADD d r) f h = ap (λ (c : Core). ran c m) (add-is k w d r)
   instruction-with (ADIW d K) f h = ap (λ (c : Core). ran c m) (adiw-is k w d K (f .1))

@@ -1,9 +1,9 @@
--- The pages of transfers and of flow, with the Rust's waits, are the port's.
+-- The pages of transfers and of flow, with the waits of the core's rule, are the port's.
 -- Assumes nothing.
 use mathlib.Core.Path.{_≡_, refl, ap}
 use mathlib.Core.Bool.{Bool, true, false, Bool·beq}
 use mathlib.Core.List.{List}
-use Prim.Native.Nat.{ℕ, _+_, _*_, _/_, _%_, _<_}
+use Prim.Native.Nat.{ℕ, _+_, _*_, _/_, _%_, _-_, _<_}
 use native.Mathlib.Omega.{arith}
 use native.Mathlib.Nat.{add-zero}
 use lib.Dec.{eqb}
@@ -13,13 +13,14 @@ use Rattle.basis.specs.Bit.{one, up, down}
 use Rattle.basis.proofs.Every.{agreed}
 use Rattle.bits.proofs.Booleans.{tauto}
 use Rattle.alu.specs.Alu.{signedOf}
+use Rattle.rule.specs.Rule.{loadWaits, storeWaits}
 use Rattle.cores.specs.declared.Core.{Core}
 use Rattle.cores.specs.State.{Out, out, reg, word, withReg, withWord, withBusy, withPc, withSp, withSreg}
 use Rattle.cores.specs.Flow.{brbxOf, skipped, callOf, icallOf, rcallOf, retOf, retiOf, ijmpOf, jmpOf, rjmpOf, overSecond}
 use Rattle.cores.specs.Transfer.{dataOf, setDataOf, pointedOf, wordIf, ldOf, stOf, ldsOf, stsOf, lpmOf, popOf, pushOf}
 use Rattle.manual.specs.Notation.{_!_, bar, next, goes}
 use Rattle.manual.specs.Switches.{base}
-use Rattle.manual.specs.Pointers.{load, loadInc, loadDec, store, storeInc, storeDec}
+use Rattle.manual.specs.Pointers.{loadCycles, storeCycles, load, loadInc, loadDec, store, storeInc, storeDec}
 use Rattle.manual.specs.AdcToCpse.{brbc, brbs, branchTarget, call, skips}
 use Rattle.manual.specs.DecToLsr.{icall, ijmp, jmp, lds, lpm}
 use Rattle.manual.specs.MovToRor.{pop, push, rcall, ret, reti, rjmp}
@@ -68,31 +69,42 @@ is-true b = tauto (λ b _ _. b) (λ b _ _. Bool·beq b true) tt b true true
 pub is-false : (b : Bool) → bar b ≡ Bool·beq b false
 is-false b = tauto (λ b _ _. bar b) (λ b _ _. Bool·beq b false) tt b true true
 
+-- ---- the waits of pointer access, from the page's cycles
+load-cycles : (chip : Bool) → loadCycles (base chip) - 1 ≡ loadWaits chip
+unfolding loadWaits
+load-cycles true = refl
+load-cycles false = refl
+
+store-cycles : (chip : Bool) → storeCycles (base chip) - 1 ≡ storeWaits chip
+unfolding storeWaits
+store-cycles true = refl
+store-cycles false = refl
+
 module _ (k : Core) (w : Ready k) where
-  -- ---- pointers
-  pub load-is : (d P q : ℕ) (m : List ℕ) → load 3 k d P q m ≡ ldOf (on k) d P q false false m
+  -- ---- pointers, with the waits of the core's rule
+  pub load-is : (d P q : ℕ) (m : List ℕ) → load (loadCycles (base (k .chip))) k d P q m ≡ ldOf (on k) d P q false false m
   unfolding load withBusy withPc withReg dataOf pointedOf wordIf
-  load-is d P q m = rw (next-busy k w)
+  load-is d P q m = rw (next-busy k w, load-cycles (k .chip))
 
-  pub load-inc-is : (d P : ℕ) (m : List ℕ) → loadInc 3 k d P m ≡ ldOf (on k) d P 0 false true m
+  pub load-inc-is : (d P : ℕ) (m : List ℕ) → loadInc (loadCycles (base (k .chip))) k d P m ≡ ldOf (on k) d P 0 false true m
   unfolding loadInc withBusy withPc withReg dataOf pointedOf wordIf
-  load-inc-is d P m = rw (next-busy k w, add-zero (word k P))
+  load-inc-is d P m = rw (next-busy k w, load-cycles (k .chip), add-zero (word k P))
 
-  pub load-dec-is : (d P : ℕ) (m : List ℕ) → loadDec 3 k d P m ≡ ldOf (on k) d P 0 true false m
+  pub load-dec-is : (d P : ℕ) (m : List ℕ) → loadDec (loadCycles (base (k .chip))) k d P m ≡ ldOf (on k) d P 0 true false m
   unfolding loadDec withBusy withPc withReg dataOf pointedOf wordIf
-  load-dec-is d P m = rw (next-busy k w, add-zero (down (word k P) 1))
+  load-dec-is d P m = rw (next-busy k w, load-cycles (k .chip), add-zero (down (word k P) 1))
 
-  pub store-is : (r P q : ℕ) (m : List ℕ) → store 2 k r P q m ≡ stOf (on k) r P q false false m
+  pub store-is : (r P q : ℕ) (m : List ℕ) → store (storeCycles (base (k .chip))) k r P q m ≡ stOf (on k) r P q false false m
   unfolding store withBusy withPc pointedOf wordIf
-  store-is r P q m = rw (next-busy k w)
+  store-is r P q m = rw (next-busy k w, store-cycles (k .chip))
 
-  pub store-inc-is : (r P : ℕ) (m : List ℕ) → storeInc 2 k r P m ≡ stOf (on k) r P 0 false true m
+  pub store-inc-is : (r P : ℕ) (m : List ℕ) → storeInc (storeCycles (base (k .chip))) k r P m ≡ stOf (on k) r P 0 false true m
   unfolding storeInc withBusy withPc pointedOf wordIf
-  store-inc-is r P m = rw (next-busy k w, add-zero (word k P))
+  store-inc-is r P m = rw (next-busy k w, store-cycles (k .chip), add-zero (word k P))
 
-  pub store-dec-is : (r P : ℕ) (m : List ℕ) → storeDec 2 k r P m ≡ stOf (on k) r P 0 true false m
+  pub store-dec-is : (r P : ℕ) (m : List ℕ) → storeDec (storeCycles (base (k .chip))) k r P m ≡ stOf (on k) r P 0 true false m
   unfolding storeDec withBusy withPc pointedOf wordIf
-  store-dec-is r P m = rw (next-busy k w, add-zero (down (word k P) 1))
+  store-dec-is r P m = rw (next-busy k w, store-cycles (k .chip), add-zero (down (word k P) 1))
 
   -- ---- the program, the second word, the stack
   pub lpm-is : (d : ℕ) (p : List ℕ) → lpm k d p ≡ lpmOf (on k) d false p

@@ -1,23 +1,25 @@
 -- The pages of one result and its flags are the port's: AND ANDI EOR OR ORI, COM, INC DEC, the shifts, and the pages of single bits.
 -- Assumes nothing.
-use mathlib.Core.Path.{_≡_}
-use mathlib.Core.Bool.{Bool, true, false}
+use mathlib.Core.Path.{_≡_, refl}
+use mathlib.Core.Bool.{Bool, true, false, not, _&&_, _||_}
 use Prim.Native.Nat.{ℕ, _+_, _*_, _/_, _%_, _-_, _<_}
 use native.Mathlib.Omega.{arith}
 use native.Mathlib.Nat.{add-zero}
 use lib.Bits.{bitAnd, bitOr, bitXor, and-lt, or-lt, xor-lt}
 use lib.Dec.{eqb, leb}
 use borrow.Author.Tests.{lt-leb}
-use Rattle.basis.specs.Bit.{one, bit}
+use Rattle.basis.specs.Pick.{pick}
+use Rattle.basis.specs.Bit.{one, bit, put}
 use Rattle.basis.proofs.Bits.{one-le}
 use Rattle.bits.proofs.Booleans.{tests-agree}
 use Rattle.bits.proofs.Tops.{bit7}
 use Rattle.cores.specs.declared.Core.{Core}
-use Rattle.cores.specs.State.{reg, withReg, withSreg, withPc, znvs}
+use Rattle.cores.specs.State.{reg, withReg, withSreg, withPc, withInhibit, znvs}
 use Rattle.cores.specs.Arithmetic.{resulted, andOf, comOf, decOf, eorOf, incOf, orOf}
-use Rattle.cores.specs.Bits.{shifted, asrOf, lsrOf, rorOf, bldOf, bstOf, flagMadeOf}
-use Rattle.manual.specs.Notation.{_!_, _•_, _⊕_, bar, zero8, kept, is, row, bitTo, carry, next}
-use Rattle.manual.specs.AdcToCpse.{and, andi, asr, bclr, bld, bst, «com»}
+use Rattle.cores.specs.Bits.{shifted, asrOf, lsrOf, rorOf, bclrOf, bldOf, bsetOf, bstOf}
+use Rattle.manual.specs.Notation.{_!_, _•_, _⊕_, bar, zero8, kept, is, row, carry, next}
+use Rattle.manual.specs.Switches.{base}
+use Rattle.manual.specs.AdcToCpse.{and, andi, asr, bclr, bld, bset, bst, «com»}
 use Rattle.manual.specs.DecToLsr.{dec, eor, inc, lsr}
 use Rattle.manual.specs.MovToRor.{or, ori, ror}
 use Rattle.manual.proofs.Rows.{row-cznvs, row-znvs, row-t, bit-to, xor-is, zero8-is}
@@ -32,6 +34,14 @@ resultRow s x v h hx = rw (row-znvs, zero8-is x hx, bit7 x hx)
 pub bit-is : (x b : ℕ) → b < 8 → bit x b ≡ x ! b
 unfolding bit
 bit-is x b h = let e : b % 8 ≡ b = omega arith in rw e
+
+-- what the page of BSET does to inhibit, under a rule
+sei-is : (chip sei : Bool) (j : Core) → pick (not chip || not sei) j (withInhibit j true) ≡ withInhibit j ((sei && chip) || j .inhibit)
+unfolding withInhibit
+sei-is true true j = refl
+sei-is true false j = refl
+sei-is false true j = refl
+sei-is false false j = refl
 
 module _ (k : Core) (w : Ready k) where
   -- a byte x into register d, as each page of a logical operation has it
@@ -121,14 +131,14 @@ module _ (k : Core) (w : Ready k) where
       rw (next-one k w, row-cznvs, add-zero y, zero8-is y (omega arith), n, ← xor-is false (reg k d ! 0))
 
   -- ---- single bits
-  pub bclr-is : (s : ℕ) → s < 8 → bclr k s ≡ flagMadeOf (on k) s false
+  pub bclr-is : (s : ℕ) → s < 8 → bclr k s ≡ bclrOf (on k) s
   unfolding bclr withPc
   bclr-is s h = rw (next-one k w, bit-to false (k .sreg) s (w .sound .sreg-lt) h)
 
-  -- BSET, but for what follows SEI
-  pub bset-is : (s : ℕ) → s < 8 → withSreg (next k 1 1) (bitTo (k .sreg) s true) ≡ flagMadeOf (on k) s true
-  unfolding withPc
-  bset-is s h = rw (next-one k w, bit-to true (k .sreg) s (w .sound .sreg-lt) h)
+  pub bset-is : (s : ℕ) → s < 8 → bset (base (k .chip)) k s ≡ bsetOf (on k) s
+  unfolding bset withPc
+  bset-is s h =
+      rw (next-one k w, bit-to true (k .sreg) s (w .sound .sreg-lt) h) (sei-is (k .chip) (eqb s 7) (withSreg (on k) (put (k .sreg) s true)))
 
   pub bld-is : (d b : ℕ) → b < 8 → bld k d b ≡ bldOf (on k) d b
   unfolding bld withPc withReg bit

@@ -3,16 +3,19 @@
 use mathlib.Core.Path.{_≡_, refl, sym, ap, _∙_}
 use mathlib.Core.Bool.{Bool, true, false, not, _&&_, _||_}
 use mathlib.Core.List.{List, [], _∷_}
+use Prim.Native.Nat.{ℕ}
+use lib.Dec.{eqb}
 use Rattle.basis.specs.Pick.{pick}
 use Rattle.basis.proofs.Choice.{clash}
+use Rattle.instruction.specs.Code.{code}
 use Rattle.instruction.specs.declared.Instruction.{Instruction}
 use Rattle.cores.specs.declared.Core.{Core}
 use Rattle.cores.specs.State.{withInhibit}
 use Rattle.tick.specs.Tick.{tickOf}
 use Rattle.manual.specs.Switches.{Switch, adiwV, loads, stores, afterSei, unknown, outside, end, target, pointers, Switches, base, theManual, baseBut, Says}
 use Rattle.manual.specs.Tick.{told, opcodeAt, step, tickBy}
-use Rattle.manual.specs.Differences.{lists, listedBy, changes, asSet, changedBy, all, changed}
-use Rattle.manual.specs.Statement.{executes, EqualsTheManual, EqualsBySwitches, Alone, AdiwAlone, LoadsAlone, StoresAlone, SeiAlone, UnknownAlone, OutsideAlone, TargetAlone, PointersAlone, withEnd, EqualsUnlessListed}
+use Rattle.manual.specs.Differences.{stepsItsOwn, lists, listedBy, listed, changes, asSet, changedBy, all, changed}
+use Rattle.manual.specs.Statement.{executes, EqualsTheManual, EqualsBySwitches, Alone, AdiwAlone, LoadsAlone, StoresAlone, SeiAlone, UnknownAlone, OutsideAlone, TargetAlone, PointersAlone, withEnd, EqualsUnlessListed, remains, ChipEqualsTheManual}
 use Rattle.manual.proofs.Ticks.{tick-is}
 use Rattle.manual.proofs.End.{end-alone}
 
@@ -49,10 +52,10 @@ module _ (chip : Bool) where
   alone-changes : (w : Switch) (k : Core) (i : Instruction) (x : Says) → baseBut chip w end ≡ true
       → changed chip (baseBut chip w) (withInhibit k false) i x ≡ pick (lists w i) (changes w (not (base chip w)) k i x) x
   unfolding withInhibit changed
-  alone-changes adiwV k i x n = simp (same, turned-so)
-  alone-changes loads k i x n = simp (same, set-so)
-  alone-changes stores k i x n = simp (same, set-so)
-  alone-changes afterSei k i x n = simp (same, set-so)
+  alone-changes adiwV k i x n = simp (same, set-so, turned-so)
+  alone-changes loads k i x n = simp (same, set-so, turned-so)
+  alone-changes stores k i x n = simp (same, set-so, turned-so)
+  alone-changes afterSei k i x n = simp (same, set-so, turned-so)
   alone-changes unknown k i x n = simp (same, set-so)
   alone-changes outside k i x n = simp (same, set-so)
   alone-changes end k i x n = clash (sym n)
@@ -145,3 +148,26 @@ equals-unless-listed k p m o h pp mm d n =
     ∙ ap (λ (b : Bool). pick b (step theManual k j p m) (tickBy endOn k p m o)) d
     ∙ equals-by-switches endOn k p m o h pp mm refl
     ∙ unless (executes t) (listedBy all (k .chip) i) (told t) (changed (k .chip) endOn j i (told t)) n (λ e. unlisted all (k .chip) j i (told t) e)
+
+-- ---- 6
+-- u to j are the tests of the list, x that the pointer is its own
+regrouped : (u s w b c j x : Bool) → ((u || false) || ((s || (w || (b || false))) || ((c || (j || false)) || (x || false)))) ≡ ((u || (s || (w || (b || (c || (j || false)))))) || x)
+regrouped true s w b c j x = refl
+regrouped false true w b c j x = refl
+regrouped false false true b c j x = refl
+regrouped false false false true c j x = refl
+regrouped false false false false true j x = refl
+regrouped false false false false false true x = refl
+regrouped false false false false false false true = refl
+regrouped false false false false false false false = refl
+
+abbrev is : ℕ → Instruction → Bool
+is n i = eqb (code i .0) n
+
+remain-listed : (i : Instruction) → listed true i ≡ remains i
+remain-listed i = regrouped (is 86 i) (is 71 i) (is 85 i) (is 10 i) (is 13 i) (is 29 i) (stepsItsOwn i)
+
+pub chip-equals-the-manual : ChipEqualsTheManual
+chip-equals-the-manual k p m o c h pp mm d n =
+    let i = opcodeAt p (k .pc) in
+    equals-unless-listed k p m o h pp mm d (ap (λ (b : Bool). executes (tickOf k p m o) && b) (ap (λ (chip : Bool). listed chip i) c ∙ remain-listed i) ∙ n)

@@ -1,6 +1,7 @@
 -- A core that is about to execute, and the core whose PC is behind the opcode.
 -- Assumes nothing.
 use mathlib.Core.Path.{_≡_, _∙_}
+use mathlib.Core.Bool.{false}
 use Prim.Native.Nat.{ℕ, _+_, _%_, _-_, _<_}
 use native.Mathlib.Omega.{arith}
 use Rattle.cores.specs.declared.Core.{Core}
@@ -12,6 +13,7 @@ pub record Ready (k : Core) : Type 0 where
   pub sound : Sound k
   pub idle : k .busy ≡ 0
   pub room : k .pc < 65535
+  pub uninhibited : k .inhibit ≡ false
 
 abbrev pub on : Core → Core
 on k = withPc k (k .pc + 1)

@@ -79,7 +79,7 @@ module _ (s : Switches) (p m : List ℕ) (pp : Bytes p) (mm : Bytes m) where
       let i = opAt decodeOf p (j .pc) in
       let g = granted (stepNeeds j i) e in
       let f = fields-in-range (programWordOf p (j .pc)) (programWordOf p (j .pc + 1)) (program-word-lt p (j .pc + 1) pp) in
-      instruction-changed (j .chip) s (twoAt decodeOf (on j) p) j p m (w .sound .sreg-lt) i
+      instruction-changed (j .chip) s (twoAt decodeOf (on j) p) j p m (w .sound .sreg-lt) (w .uninhibited) i
       ∙ ap (λ (y : Says). changed (j .chip) s j i y) (instruction-with j w p m mm i f (record { bytes-there = g .bytes-there }))
 
   -- refused by 01, or as said
@@ -106,6 +106,7 @@ module _ (s : Switches) (p m : List ℕ) (pp : Bytes p) (mm : Bytes m) where
     sound = record { count = w .count; reg-lt = w .reg-lt; sreg-lt = w .sreg-lt; pc-lt = w .pc-lt; sp-lt = w .sp-lt; busy-le = w .busy-le };
     idle = b;
     room = h;
+    uninhibited = refl;
   }
 
   not-at-end : (k : Core) → Sound k → k .busy ≡ 0 → eqb (k .pc) 65535 ≡ false → step s k (withInhibit k false) p m ≡ after s (withInhibit k false) p (stepped decodeOf k (withInhibit k false) p m)

@@ -11,9 +11,9 @@ use Rattle.cores.specs.declared.Core.{Core}
 use Rattle.cores.specs.State.{Out, reg, word, withReg, withWord, withSreg}
 use Rattle.cores.specs.Transfer.{dataOf}
 use Rattle.manual.specs.Notation.{_!_, _•_, _⊕_, bar, zero8, zero16, kept, is, row, signed, unsigned, bits16, STACK←, next, goes}
-use Rattle.manual.specs.Switches.{Switches, loads, target, pointers, Says, ran, definedIf}
+use Rattle.manual.specs.Switches.{Switches, target, pointers, Says, ran, definedIf}
 use Rattle.manual.specs.Pointers as at
-use Rattle.manual.specs.Pointers.{isIn, load, loadInc, loadDec}
+use Rattle.manual.specs.Pointers.{loadCycles, isIn, load, loadInc, loadDec}
 
 -- DEC, decrement: Rd ← Rd - 1. 1 word, 1 cycle
 unfoldable pub dec : Core → ℕ → Core
@@ -87,33 +87,33 @@ jmp s k t = goes k (pick (s target) (t % 65536) t) 3
 
 -- LD using X: Rd ← (X); Rd ← (X), X ← X + 1; X ← X - 1, Rd ← (X). 1 word, 2 cycles; in the Rust 3. LD r26 and r27 by X+ and -X are undefined
 abbrev pub ldX : Switches → Core → ℕ → List ℕ → Says
-ldX s k d m = ran (load (pick (s loads) 3 2) k d at.X 0 m) m
+ldX s k d m = ran (load (loadCycles s) k d at.X 0 m) m
 
 abbrev pub ldXinc : Switches → Core → ℕ → List ℕ → Says
-ldXinc s k d m = definedIf (s pointers || not (isIn d at.X)) (ran (loadInc (pick (s loads) 3 2) k d at.X m) m)
+ldXinc s k d m = definedIf (s pointers || not (isIn d at.X)) (ran (loadInc (loadCycles s) k d at.X m) m)
 
 abbrev pub ldXdec : Switches → Core → ℕ → List ℕ → Says
-ldXdec s k d m = definedIf (s pointers || not (isIn d at.X)) (ran (loadDec (pick (s loads) 3 2) k d at.X m) m)
+ldXdec s k d m = definedIf (s pointers || not (isIn d at.X)) (ran (loadDec (loadCycles s) k d at.X m) m)
 
 -- LD, LDD using Y: Rd ← (Y), Y ← Y + 1; Y ← Y - 1, Rd ← (Y); Rd ← (Y + q), q 0 for LD. 1 word, 2 cycles; in the Rust 3. LD r28 and r29 by Y+ and -Y are undefined
 abbrev pub ldYinc : Switches → Core → ℕ → List ℕ → Says
-ldYinc s k d m = definedIf (s pointers || not (isIn d at.Y)) (ran (loadInc (pick (s loads) 3 2) k d at.Y m) m)
+ldYinc s k d m = definedIf (s pointers || not (isIn d at.Y)) (ran (loadInc (loadCycles s) k d at.Y m) m)
 
 abbrev pub ldYdec : Switches → Core → ℕ → List ℕ → Says
-ldYdec s k d m = definedIf (s pointers || not (isIn d at.Y)) (ran (loadDec (pick (s loads) 3 2) k d at.Y m) m)
+ldYdec s k d m = definedIf (s pointers || not (isIn d at.Y)) (ran (loadDec (loadCycles s) k d at.Y m) m)
 
 abbrev pub lddY : Switches → Core → ℕ → ℕ → List ℕ → Says
-lddY s k d q m = ran (load (pick (s loads) 3 2) k d at.Y q m) m
+lddY s k d q m = ran (load (loadCycles s) k d at.Y q m) m
 
 -- LD, LDD using Z: Rd ← (Z), Z ← Z + 1; Z ← Z - 1, Rd ← (Z); Rd ← (Z + q), q 0 for LD. 1 word, 2 cycles; in the Rust 3. LD r30 and r31 by Z+ and -Z are undefined
 abbrev pub ldZinc : Switches → Core → ℕ → List ℕ → Says
-ldZinc s k d m = definedIf (s pointers || not (isIn d at.Z)) (ran (loadInc (pick (s loads) 3 2) k d at.Z m) m)
+ldZinc s k d m = definedIf (s pointers || not (isIn d at.Z)) (ran (loadInc (loadCycles s) k d at.Z m) m)
 
 abbrev pub ldZdec : Switches → Core → ℕ → List ℕ → Says
-ldZdec s k d m = definedIf (s pointers || not (isIn d at.Z)) (ran (loadDec (pick (s loads) 3 2) k d at.Z m) m)
+ldZdec s k d m = definedIf (s pointers || not (isIn d at.Z)) (ran (loadDec (loadCycles s) k d at.Z m) m)
 
 abbrev pub lddZ : Switches → Core → ℕ → ℕ → List ℕ → Says
-lddZ s k d q m = ran (load (pick (s loads) 3 2) k d at.Z q m) m
+lddZ s k d q m = ran (load (loadCycles s) k d at.Z q m) m
 
 -- LDI, load immediate: Rd ← K. 1 word, 1 cycle
 unfoldable pub ldi : Core → ℕ → ℕ → Core

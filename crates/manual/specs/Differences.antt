@@ -2,11 +2,10 @@
 use mathlib.Core.Bool.{Bool, true, false, not, _&&_, _||_}
 use mathlib.Core.List.{List, [], _∷_}
 use Prim.Native.Nat.{ℕ, _+_}
-use lib.Dec.{eqb}
 use Rattle.basis.specs.Pick.{pick}
 use Rattle.instruction.specs.declared.Instruction.{Instruction}
-use Rattle.instruction.specs.declared.Instruction.the-variants.{ADIW, BREAK, BSET, CALL, JMP, LDX, LDXinc, LDXdec, LDYinc, LDYdec, LDZinc, LDZdec, LDDY, LDDZ, LPMZinc, SLEEP, STX, STXdec, STXinc, STYdec, STYinc, STZdec, STZinc, STDY, STDZ, WDR, UNDEF}
-use Rattle.instruction.specs.Code.{code, oneOf}
+use Rattle.instruction.specs.declared.Instruction.the-variants.{ADIW, BREAK, CALL, JMP, LDXinc, LDXdec, LDYinc, LDYdec, LDZinc, LDZdec, LPMZinc, SLEEP, STXdec, STXinc, STYdec, STYinc, STZdec, STZinc, WDR, UNDEF}
+use Rattle.instruction.specs.Code.{code, oneOf, isPointerLoad, isPointerStore, isSei}
 use Rattle.cores.specs.declared.Core.{Core}
 use Rattle.cores.specs.State.{reg, withSreg, withBusy, withPc, withInhibit}
 use Rattle.tick.specs.declared.Answer.the-variants.{Ran}
@@ -29,9 +28,9 @@ stepsItsOwn i =
 -- switch w lists instruction i. The end at PC 65,535 is no instruction's
 abbrev pub lists : Switch → Instruction → Bool
 lists adiwV i = oneOf (ADIW 0 0 ∷ []) i
-lists loads i = oneOf (LDX 0 ∷ LDXinc 0 ∷ LDXdec 0 ∷ LDYinc 0 ∷ LDYdec 0 ∷ LDDY 0 0 ∷ LDZinc 0 ∷ LDZdec 0 ∷ LDDZ 0 0 ∷ []) i
-lists stores i = oneOf (STX 0 ∷ STXinc 0 ∷ STXdec 0 ∷ STYinc 0 ∷ STYdec 0 ∷ STDY 0 0 ∷ STZinc 0 ∷ STZdec 0 ∷ STDZ 0 0 ∷ []) i
-lists afterSei i = oneOf (BSET 0 ∷ []) i && eqb (field i) 7
+lists loads i = isPointerLoad i
+lists stores i = isPointerStore i
+lists afterSei i = isSei i
 lists unknown i = oneOf (UNDEF ∷ []) i
 lists outside i = oneOf (SLEEP ∷ WDR ∷ BREAK ∷ []) i
 lists end i = false

@@ -3,11 +3,13 @@ use mathlib.Core.Bool.{Bool, _||_}
 use mathlib.Core.List.{List}
 use Prim.Native.Nat.{ℕ, _+_}
 use lib.Dec.{eqb}
+use Rattle.basis.specs.Pick.{pick}
 use Rattle.basis.specs.Bit.{up, down}
 use Rattle.cores.specs.declared.Core.{Core}
 use Rattle.cores.specs.State.{Out, out, reg, word, withReg, withWord}
 use Rattle.cores.specs.Transfer.{dataOf, setDataOf}
 use Rattle.manual.specs.Notation.{next}
+use Rattle.manual.specs.Switches.{loads, stores, Switches}
 
 -- a pointer is the number of its low register: R27:R26, R29:R28, R31:R30
 abbrev pub X : ℕ
@@ -18,6 +20,13 @@ Y = 28
 
 abbrev pub Z : ℕ
 Z = 30
+
+-- the cycles of LD and LDD, and of ST and STD, from and to SRAM: 2 and 1 by the manual, 3 and 2 in the Rust
+abbrev pub loadCycles : Switches → ℕ
+loadCycles s = pick (s loads) 3 2
+
+abbrev pub storeCycles : Switches → ℕ
+storeCycles s = pick (s stores) 2 1
 
 -- register d is a byte of the pointer P: where P is stepped, the manual leaves the result undefined, and these pages the whole tick
 abbrev pub isIn : ℕ → ℕ → Bool

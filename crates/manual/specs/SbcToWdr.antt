@@ -9,9 +9,9 @@ use Rattle.cores.specs.State.{Out, out, reg, word, withReg, withWord, withSreg}
 use Rattle.cores.specs.Transfer.{setDataOf}
 use Rattle.tick.specs.declared.Answer.the-variants.{Ran, Sleep, Watchdog}
 use Rattle.manual.specs.Notation.{_!_, _•_, _⊹_, _⊕_, bar, zero8, zero16, kept, is, row, bitTo, carry, next}
-use Rattle.manual.specs.Switches.{Switches, stores, outside, pointers, Says, sleeps, says, ranOut, definedIf}
+use Rattle.manual.specs.Switches.{Switches, outside, pointers, Says, sleeps, says, ranOut, definedIf}
 use Rattle.manual.specs.Pointers as at
-use Rattle.manual.specs.Pointers.{isIn, store, storeInc, storeDec}
+use Rattle.manual.specs.Pointers.{storeCycles, isIn, store, storeInc, storeDec}
 use Rattle.manual.specs.AdcToCpse.{skips}
 
 -- SBC, subtract with carry: Rd ← Rd - Rr - C. 1 word, 1 cycle. Z: as it was where the result is zero, else cleared
@@ -80,33 +80,33 @@ sleep s k m = pick (s outside) (says Sleep (next k 1 1) m) (sleeps (next k 1 1) 
 
 -- ST using X: (X) ← Rr; (X) ← Rr, X ← X + 1; X ← X - 1, (X) ← Rr. 1 word, 1 cycle; in the Rust 2. ST of r26 and r27 by X+ and -X are undefined
 abbrev pub stX : Switches → Core → ℕ → List ℕ → Says
-stX s k r m = ranOut (store (pick (s stores) 2 1) k r at.X 0 m)
+stX s k r m = ranOut (store (storeCycles s) k r at.X 0 m)
 
 abbrev pub stXinc : Switches → Core → ℕ → List ℕ → Says
-stXinc s k r m = definedIf (s pointers || not (isIn r at.X)) (ranOut (storeInc (pick (s stores) 2 1) k r at.X m))
+stXinc s k r m = definedIf (s pointers || not (isIn r at.X)) (ranOut (storeInc (storeCycles s) k r at.X m))
 
 abbrev pub stXdec : Switches → Core → ℕ → List ℕ → Says
-stXdec s k r m = definedIf (s pointers || not (isIn r at.X)) (ranOut (storeDec (pick (s stores) 2 1) k r at.X m))
+stXdec s k r m = definedIf (s pointers || not (isIn r at.X)) (ranOut (storeDec (storeCycles s) k r at.X m))
 
 -- ST, STD using Y: (Y) ← Rr, Y ← Y + 1; Y ← Y - 1, (Y) ← Rr; (Y + q) ← Rr, q 0 for ST. 1 word, 1 cycle; in the Rust 2. ST of r28 and r29 by Y+ and -Y are undefined
 abbrev pub stYinc : Switches → Core → ℕ → List ℕ → Says
-stYinc s k r m = definedIf (s pointers || not (isIn r at.Y)) (ranOut (storeInc (pick (s stores) 2 1) k r at.Y m))
+stYinc s k r m = definedIf (s pointers || not (isIn r at.Y)) (ranOut (storeInc (storeCycles s) k r at.Y m))
 
 abbrev pub stYdec : Switches → Core → ℕ → List ℕ → Says
-stYdec s k r m = definedIf (s pointers || not (isIn r at.Y)) (ranOut (storeDec (pick (s stores) 2 1) k r at.Y m))
+stYdec s k r m = definedIf (s pointers || not (isIn r at.Y)) (ranOut (storeDec (storeCycles s) k r at.Y m))
 
 abbrev pub stdY : Switches → Core → ℕ → ℕ → List ℕ → Says
-stdY s k q r m = ranOut (store (pick (s stores) 2 1) k r at.Y q m)
+stdY s k q r m = ranOut (store (storeCycles s) k r at.Y q m)
 
 -- ST, STD using Z: (Z) ← Rr, Z ← Z + 1; Z ← Z - 1, (Z) ← Rr; (Z + q) ← Rr, q 0 for ST. 1 word, 1 cycle; in the Rust 2. ST of r30 and r31 by Z+ and -Z are undefined
 abbrev pub stZinc : Switches → Core → ℕ → List ℕ → Says
-stZinc s k r m = definedIf (s pointers || not (isIn r at.Z)) (ranOut (storeInc (pick (s stores) 2 1) k r at.Z m))
+stZinc s k r m = definedIf (s pointers || not (isIn r at.Z)) (ranOut (storeInc (storeCycles s) k r at.Z m))
 
 abbrev pub stZdec : Switches → Core → ℕ → List ℕ → Says
-stZdec s k r m = definedIf (s pointers || not (isIn r at.Z)) (ranOut (storeDec (pick (s stores) 2 1) k r at.Z m))
+stZdec s k r m = definedIf (s pointers || not (isIn r at.Z)) (ranOut (storeDec (storeCycles s) k r at.Z m))
 
 abbrev pub stdZ : Switches → Core → ℕ → ℕ → List ℕ → Says
-stdZ s k q r m = ranOut (store (pick (s stores) 2 1) k r at.Z q m)
+stdZ s k q r m = ranOut (store (storeCycles s) k r at.Z q m)
 
 -- STS, store direct to data space: (k) ← Rr. 2 words, 2 cycles
 unfoldable pub sts : Core → ℕ → ℕ → List ℕ → Out

@@ -6,21 +6,25 @@
 -- 3. So each of the eight, alone turned the other way than the rule has it, changes what it names at the instructions it lists, and nothing else.
 -- 4. The ninth, the end, turned off, changes the ticks that end, and these alone: they execute what stands at PC 65,535, or refuse it.
 -- 5. With every switch off, which is the manual itself, the tick is 01's unless it ends or executes an instruction that remains listed under the rule.
+-- 6. The same of a core with rule chip, with the list written out: words that decode doesn't know, SLEEP, WDR, BREAK, CALL, JMP, and a load into or a store from a stepped pointer.
 -- Settings s, switch w, core k, program p, data m, offer o, tick t, instruction i.
 use mathlib.Core.Path.{_≡_}
-use mathlib.Core.Bool.{Bool, true, false, not, _&&_}
-use mathlib.Core.List.{List}
+use mathlib.Core.Bool.{Bool, true, false, not, _&&_, _||_}
+use mathlib.Core.List.{List, [], _∷_}
 use Prim.Native.Nat.{ℕ}
 use lib.Dec.{eqb, leb}
 use Rattle.basis.specs.Pick.{pick}
 use Rattle.basis.specs.Bytes.{Bytes}
+use Rattle.instruction.specs.Code.{oneOf}
+use Rattle.instruction.specs.declared.Instruction.{Instruction}
+use Rattle.instruction.specs.declared.Instruction.the-variants.{BREAK, CALL, JMP, SLEEP, WDR, UNDEF}
 use Rattle.cores.specs.declared.Core.{Core}
 use Rattle.cores.specs.State.{Sound, withInhibit}
 use Rattle.tick.specs.declared.Offer.{Offer}
 use Rattle.tick.specs.Tick.{Tick, numberOf, tickOf}
 use Rattle.manual.specs.Switches.{Switch, adiwV, loads, stores, afterSei, unknown, outside, end, target, pointers, Switches, base, theManual, turned, baseBut}
 use Rattle.manual.specs.Tick.{told, opcodeAt, step, tickBy}
-use Rattle.manual.specs.Differences.{lists, listed, changes, changed}
+use Rattle.manual.specs.Differences.{stepsItsOwn, lists, listed, changes, changed}
 
 -- the tick executed an instruction: answers 18 to 22
 abbrev pub executes : Tick → Bool
@@ -55,15 +59,15 @@ Alone w =
 abbrev pub AdiwAlone : Type 0
 AdiwAlone = Alone adiwV
 
--- pointer loads: busy 1, not 2
+-- pointer loads: under source busy 1 and not 2, under chip 2 and not 1
 abbrev pub LoadsAlone : Type 0
 LoadsAlone = Alone loads
 
--- pointer stores: busy 0, not 1
+-- pointer stores: under source busy 0 and not 1, under chip 1 and not 0
 abbrev pub StoresAlone : Type 0
 StoresAlone = Alone stores
 
--- SEI: inhibit is set
+-- SEI: under source inhibit is set, under chip it is clear
 abbrev pub SeiAlone : Type 0
 SeiAlone = Alone afterSei
 
@@ -99,3 +103,14 @@ EqualsUnlessListed =
     → let t = tickOf k p m o in
     let i = opcodeAt p (k .pc) in
     ended t ≡ false → (executes t && listed (k .chip) i) ≡ false → tickBy theManual k p m o ≡ told t
+
+-- ---- 6
+-- what remains listed under chip, beside the end
+abbrev pub remains : Instruction → Bool
+remains i = oneOf (UNDEF ∷ SLEEP ∷ WDR ∷ BREAK ∷ CALL 0 ∷ JMP 0 ∷ []) i || stepsItsOwn i
+
+abbrev pub ChipEqualsTheManual : Type 0
+ChipEqualsTheManual =
+    (k : Core) (p m : List ℕ) (o : Offer) → k .chip ≡ true → Sound k → Bytes p → Bytes m
+    → let t = tickOf k p m o in
+    ended t ≡ false → (executes t && remains (opcodeAt p (k .pc))) ≡ false → tickBy theManual k p m o ≡ told t

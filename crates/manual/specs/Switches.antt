@@ -25,12 +25,13 @@ pub data Switch : Type 0 where
 abbrev pub Switches : Type 0
 Switches = Switch → Bool
 
--- how a rule, source or chip, sets each. 02, W2: "Under chip, ADIW's V is old bit 15 clear and new bit 15 set"
+-- how a rule, source or chip, sets each. 02, W2: "Under chip, ADIW's V is old bit 15 clear and new bit 15 set"; W4: "Under the chip rule BSET 7 sets inhibit as RETI does",
+-- and "Pointer loads and stores set busy to one less than the manual's AVRxt cycles for SRAM"
 abbrev pub base : Bool → Switches
 base chip adiwV = not chip
-base chip loads = true
-base chip stores = true
-base chip afterSei = true
+base chip loads = not chip
+base chip stores = not chip
+base chip afterSei = not chip
 base chip unknown = true
 base chip outside = true
 base chip end = true

@@ -47,9 +47,6 @@ pub record Shows (s : Switches) (k : Core) (p : List ℕ) (see : Says → ℕ) (
 -- ---- the table
 -- the rows that remain under either rule
 pub record Remaining (chip : Bool) : Type 0 where
-  pub load : Shows (baseBut chip loads) (fresh chip) (0x0C ∷ 0x90 ∷ []) busy 1 2  -- LD R0, X
-  pub store : Shows (baseBut chip stores) (fresh chip) (0x0C ∷ 0x92 ∷ []) busy 0 1  -- ST X, R0
-  pub sei : Shows (baseBut chip afterSei) (fresh chip) (0x78 ∷ 0x94 ∷ []) inhibit 1 0  -- SEI
   pub unknown-word : Shows (baseBut chip unknown) (fresh chip) (0x01 ∷ 0x00 ∷ []) number 1000 21  -- 0x0001
   pub sleep : Shows (baseBut chip outside) (fresh chip) (0x88 ∷ 0x95 ∷ []) number 2000 19  -- SLEEP
   pub wdr : Shows (baseBut chip outside) (fresh chip) (0xA8 ∷ 0x95 ∷ []) number 18 20  -- WDR
@@ -58,17 +55,38 @@ pub record Remaining (chip : Bool) : Type 0 where
   pub jmp : Shows (baseBut chip target) (fresh chip) (0x0D ∷ 0x94 ∷ 0x00 ∷ 0x00 ∷ []) pc 65536 0  -- JMP 65,536
   pub stepped : Shows (baseBut chip pointers) (fresh chip) (0xAD ∷ 0x91 ∷ []) number 1000 18  -- LD R26, X+
 
--- ADIW R24, 0 with R25 0x80: 0x14 is N and S, 0x0C is N and V
+-- the others: ADIW R24, 0 with R25 0x80 (0x14 is N and S, 0x0C is N and V), LD R0, X, ST X, R0, and SEI
 abbrev pub Adiw : Switches → Bool → ℕ → ℕ → Type 0
 Adiw s chip manual port = Shows s (withReg (fresh chip) 25 0x80) (0x00 ∷ 0x96 ∷ []) sreg manual port
 
+abbrev pub Load : Switches → Bool → ℕ → ℕ → Type 0
+Load s chip manual port = Shows s (fresh chip) (0x0C ∷ 0x90 ∷ []) busy manual port
+
+abbrev pub Store : Switches → Bool → ℕ → ℕ → Type 0
+Store s chip manual port = Shows s (fresh chip) (0x0C ∷ 0x92 ∷ []) busy manual port
+
+abbrev pub Sei : Switches → Bool → ℕ → ℕ → Type 0
+Sei s chip manual port = Shows s (fresh chip) (0x78 ∷ 0x94 ∷ []) inhibit manual port
+
 pub record Witnesses : Type 0 where
-  pub adiw : Adiw (baseBut false adiwV) false 0x14 0x0C  -- under source
+  -- under source
+  pub adiw : Adiw (baseBut false adiwV) false 0x14 0x0C
+  pub load : Load (baseBut false loads) false 1 2
+  pub store : Store (baseBut false stores) false 0 1
+  pub sei : Sei (baseBut false afterSei) false 1 0
   pub source : Remaining false
   pub chip : Remaining true
 
--- and where they agree, by the manual alone: the waits of POP and PUSH under either rule, and ADIW under chip
+-- and where they agree, by the manual alone
 pub record Agreements : Type 0 where
+  -- under chip
+  pub adiw : Adiw theManual true 0x14 0x14
+  pub load : Load theManual true 1 1
+  pub store : Store theManual true 0 0
+  pub sei : Sei theManual true 1 1
+  -- under either rule, what goes by no pointer: the waits of LDS, LPM, POP, PUSH and STS
+  pub lds : (chip : Bool) → Shows theManual (fresh chip) (0x00 ∷ 0x90 ∷ 0x00 ∷ 0x00 ∷ []) busy 2 2  -- LDS R0, 0
+  pub lpm : (chip : Bool) → Shows theManual (fresh chip) (0xC8 ∷ 0x95 ∷ []) busy 2 2  -- LPM
   pub pop : (chip : Bool) → Shows theManual (withSp (fresh chip) 65535) (0x0F ∷ 0x90 ∷ []) busy 1 1  -- POP R0
   pub push : (chip : Bool) → Shows theManual (fresh chip) (0x0F ∷ 0x92 ∷ []) busy 0 0  -- PUSH R0
-  pub adiw : Adiw theManual true 0x14 0x14  -- under chip
+  pub sts : (chip : Bool) → Shows theManual (fresh chip) (0x00 ∷ 0x92 ∷ 0x00 ∷ 0x00 ∷ []) busy 1 1  -- STS 0, R0

@@ -5,6 +5,7 @@ use Rattle.basis.specs.Bit.{bit, put}
 use Rattle.alu.specs.Alu.{minusOf}
 use Rattle.instruction.specs.Decode.{decodeOf, nopToAddOf, mulsuToFmulsuOf, cpseToAdcOf, displacedOf, loadOf, indirectOf, storeOf, oneRegisterOf, controlOf, wordImmediateOf, relativeOf, branchOrBitOf, registerBitOf}
 use Rattle.memory.specs.Memory.{programWordOf, hasWordOf}
+use Rattle.rule.specs.Rule.{loadWaits}
 use Rattle.cores.specs.State.{freshOf, withReg, withPc, withSp, withBusy, withInhibit, withService, withChip, cz, cznvsh, cznvs, znvs}
 use Rattle.cores.specs.Transfer.{reachOf, dataOf, setDataOf, pointedOf, wordIf}
 use Rattle.cores.specs.Flow.{skipped}
@@ -12,7 +13,7 @@ use Rattle.tick.specs.Tick.{stepped, entersOrSteps, ticked}
 use Rattle.promises.specs.BenchSheet.{BenchSheet}
 
 pub bench-sheet : BenchSheet
-unfolding ticked entersOrSteps stepped programWordOf hasWordOf decodeOf nopToAddOf mulsuToFmulsuOf cpseToAdcOf displacedOf loadOf indirectOf storeOf oneRegisterOf controlOf wordImmediateOf relativeOf branchOrBitOf registerBitOf freshOf withReg withPc withSp withBusy withInhibit withService withChip cz cznvsh cznvs znvs bit put minusOf reachOf dataOf setDataOf pointedOf wordIf skipped
+unfolding loadWaits ticked entersOrSteps stepped programWordOf hasWordOf decodeOf nopToAddOf mulsuToFmulsuOf cpseToAdcOf displacedOf loadOf indirectOf storeOf oneRegisterOf controlOf wordImmediateOf relativeOf branchOrBitOf registerBitOf freshOf withReg withPc withSp withBusy withInhibit withService withChip cz cznvsh cznvs znvs bit put minusOf reachOf dataOf setDataOf pointedOf wordIf skipped
 bench-sheet =
     record {
       line-1 = (refl, refl, refl);

@@ -5,7 +5,8 @@ use Rattle.invariants.proofs.Ranges.{instructions-stay-in-range}
 use Rattle.invariants.proofs.Waits.{instructions-wait-at-most-3}
 use Rattle.invariants.proofs.Registers.{other-registers-kept, register-only-keeps-the-rest}
 use Rattle.invariants.proofs.Ticks.{ticks-answer-tick-numbers}
-use Rattle.invariants.proofs.Rule.{instructions-keep-the-rule, ticks-keep-the-rule, rules-differ-where-asked}
+use Rattle.invariants.proofs.Controls.{only-reti-and-sei-touch-the-flags, instructions-keep-the-rule, pointers-wait-by-the-rule}
+use Rattle.invariants.proofs.Rule.{ticks-keep-the-rule, rules-differ-where-asked}
 use Rattle.snapshot.proofs.RoundTrips.{old-snapshots-read-unchanged}
 use Rattle.source.proofs.Bench.{bench-on-the-rust, fresh-cores-are-sound}
 use Rattle.manual.proofs.Witnesses.{agreements}
@@ -31,6 +32,7 @@ claims =
       instructions-wait = instructions-wait-at-most-3;
       other-registers = other-registers-kept;
       register-only = register-only-keeps-the-rest;
+      flags = only-reti-and-sei-touch-the-flags;
       tick-numbers = ticks-answer-tick-numbers;
       tick-call-writes = tick-calls-write-the-next-core;
       run-call-writes = run-calls-write-the-last-core;
@@ -43,6 +45,7 @@ claims =
       instructions-rule = instructions-keep-the-rule;
       ticks-rule = ticks-keep-the-rule;
       rules-differ = rules-differ-where-asked;
+      pointer-waits = pointers-wait-by-the-rule;
       old-snapshots = old-snapshots-read-unchanged;
       hex-numbers = each-number-exactly;
       hex-given-back = given-back;

@@ -10,7 +10,7 @@ use Rattle.table.proofs.HostCalls.{tick-calls-by-the-table, refused-tick-calls-
 use Rattle.source_decode.proofs.Decodes.{decodes-as-the-rust}
 use Rattle.source.proofs.Source.{equals-the-rust, refused-exactly-where-it-panics, code-equals-the-rust, in-place-equals-the-rust}
 use Rattle.manual_opcodes.proofs.Decodes.{decodes-as-the-manual}
-use Rattle.manual.proofs.Manual.{equals-the-manual, equals-by-switches, adiw-alone, loads-alone, stores-alone, sei-alone, unknown-alone, outside-alone, target-alone, pointers-alone, equals-unless-listed}
+use Rattle.manual.proofs.Manual.{equals-the-manual, equals-by-switches, adiw-alone, loads-alone, stores-alone, sei-alone, unknown-alone, outside-alone, target-alone, pointers-alone, equals-unless-listed, chip-equals-the-manual}
 use Rattle.manual.proofs.End.{end-alone}
 use Rattle.manual.proofs.Witnesses.{witnesses}
 use Rattle.promises.specs.Demands.{Demand1, Demand2, Demand3}
@@ -60,6 +60,7 @@ demand2 =
       target = target-alone;
       pointers = pointers-alone;
       unless-listed = equals-unless-listed;
+      chip = chip-equals-the-manual;
       witnesses = witnesses;
       run = runs-are-ticks;
       larger-budget = same-under-larger-budget;

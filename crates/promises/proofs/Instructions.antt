@@ -1,25 +1,20 @@
--- What demand 3 asks of each instruction: those of the register-only list touch registers, SREG and busy alone and need nothing;
--- of the others only RETI touches in-service.
+-- What demand 3 asks of each instruction: those of the register-only list touch registers, SREG and busy alone, and inhibit where it is SEI under chip, and need nothing;
+-- the others are RETI and those that are not.
 -- Assumes nothing.
-use mathlib.Core.Path.{_≡_, refl, _∙_}
-use mathlib.Core.Bool.{Bool, true, false, Bool·beq}
-use mathlib.Core.List.{List, []}
+use mathlib.Core.Path.{_≡_, refl}
+use mathlib.Core.Bool.{Bool, true, false}
+use mathlib.Core.List.{List, [], _∷_}
 use Prim.Native.Nat.{ℕ}
-use lib.Dec.{eqb, leb}
-use Rattle.basis.specs.Pick.{pick}
-use Rattle.basis.specs.Bit.{up}
-use Rattle.basis.proofs.Choice.{cases}
-use Rattle.alu.specs.Alu.{signedOf}
+use lib.Dec.{leb}
 use Rattle.instruction.specs.Decode.{decodeOf}
-use Rattle.instruction.specs.Code.{twoWords}
+use Rattle.instruction.specs.Code.{oneOf, twoWords}
 use Rattle.instruction.specs.declared.Instruction.{Instruction}
 use Rattle.instruction.specs.declared.Instruction.the-variants.{ADC, ADD, ADIW, AND, ANDI, ASR, BCLR, BLD, BRBC, BRBS, BREAK, BSET, BST, CALL, CBI, COM, CP, CPC, CPI, CPSE, DEC, EOR, FMUL, FMULS, FMULSU, ICALL, IJMP, IN, INC, JMP, LDX, LDXinc, LDXdec, LDYinc, LDYdec, LDZinc, LDZdec, LDDY, LDDZ, LDI, LDS, LPM, LPMZ, LPMZinc, LSL, LSR, MOV, MOVW, MUL, MULS, MULSU, NEG, NOP, OR, ORI, OUT, POP, PUSH, RCALL, RET, RETI, RJMP, ROR, SBC, SBCI, SBI, SBIC, SBIS, SBIW, SBRC, SBRS, SLEEP, STX, STXdec, STXinc, STYdec, STYinc, STZdec, STZinc, STDY, STDZ, STS, SUB, SUBI, SWAP, WDR, UNDEF}
 use Rattle.cores.specs.declared.Core.{Core}
-use Rattle.cores.specs.State.{Out, flag, freshOf, withRegs, withReg, withSreg, withPc, withSp, withBusy, withInhibit, withService, withChip}
-use Rattle.cores.specs.Flow.{brbxOf, skipped}
-use Rattle.cores.specs.Transfer.{setDataOf, wordIf, ldOf, stOf}
+use Rattle.cores.specs.State.{freshOf, withRegs, withReg, withSreg, withPc, withSp, withBusy, withInhibit, withService, withChip}
 use Rattle.execute.specs.Needs.{needs, nothing}
 use Rattle.execute.specs.Execute.{executed, ran}
+use Rattle.invariants.specs.Instructions.{inhibitedBy}
 use Rattle.promises.specs.RegisterOnly.{Kind, registerOnly, return, other, kindOf}
 use Rattle.promises.specs.Interrupts.{Kept}
 
@@ -40,48 +35,15 @@ doesOf chip op r = keptOf (executed decodeOf (withKept (freshUnder chip) r) op [
 abbrev pub waitsOf : Bool → Instruction → ℕ
 waitsOf chip op = executed decodeOf (freshUnder chip) op [] [] .core .busy
 
--- ---- in-service, past a choice
-branch-service : (k : Core) (s o : ℕ) (on : Bool) → brbxOf k s o on .«in_service» ≡ k .«in_service»
-unfolding brbxOf withBusy withPc
-branch-service k s o on = go (Bool·beq (flag k s) on)
-  where
-    go : (c : Bool) → pick c (withBusy (withPc k (up (k .pc) (signedOf o))) 1) k .«in_service» ≡ k .«in_service»
-    go true = refl
-    go false = refl
-
-skip-service : (k : Core) (taken two : Bool) → skipped k taken two .«in_service» ≡ k .«in_service»
-unfolding skipped withBusy withPc
-skip-service k true two = refl
-skip-service k false two = refl
-
-pointer-service : (k : Core) (on : Bool) (p v : ℕ) → wordIf k on p v .«in_service» ≡ k .«in_service»
-unfolding wordIf withReg
-pointer-service k true p v = refl
-pointer-service k false p v = refl
-
-data-service : (k : Core) (at v : ℕ) (m : List ℕ) → setDataOf k at v m .core .«in_service» ≡ k .«in_service»
-unfolding setDataOf withSp
-data-service k at v m =
-    let P : Out → Type 0 = λ o. o .core .«in_service» ≡ k .«in_service» in
-    cases P (eqb at 0x3F) _ _ (λ e. refl) (λ e. cases P (eqb at 0x3E) _ _ (λ e. refl) (λ e. cases P (eqb at 0x3D) _ _ (λ e. refl) (λ e. refl)))
-
-load-service : (k : Core) (d p q : ℕ) (dec inc : Bool) (m : List ℕ) → ldOf k d p q dec inc m .«in_service» ≡ k .«in_service»
-unfolding withReg withBusy
-load-service k d p q dec inc m = pointer-service _ _ _ _ ∙ pointer-service _ _ _ _
-
-store-service : (k : Core) (r p q : ℕ) (dec inc : Bool) (m : List ℕ) → stOf k r p q dec inc m .core .«in_service» ≡ k .«in_service»
-unfolding withBusy
-store-service k r p q dec inc m = pointer-service _ _ _ _ ∙ data-service _ _ _ _ ∙ pointer-service _ _ _ _
-
 -- ---- the table
 abbrev pub Fact : Kind → Instruction → Core → List ℕ → List ℕ → Type 0
 Fact registerOnly op k p m =
-    (executed decodeOf (withBusy k 0) op p m ≡ ran (withBusy (withKept k (doesOf (k .chip) op (keptOf k))) (waitsOf (k .chip) op)) m)
+    (executed decodeOf (withBusy k 0) op p m ≡ ran (withBusy (withKept (inhibitedBy op k) (doesOf (k .chip) op (keptOf k))) (waitsOf (k .chip) op)) m)
     × (needs decodeOf k op p m ≡ nothing)
     × (twoWords op ≡ false)
     × (leb (waitsOf (k .chip) op) 1 ≡ true)
 Fact return op k p m = op ≡ RETI
-Fact other op k p m = executed decodeOf k op p m .core .«in_service» ≡ k .«in_service»
+Fact other op k p m = oneOf (RETI ∷ []) op ≡ false
 
 pub fact : (op : Instruction) (k : Core) (p m : List ℕ) → Fact (kindOf op) op k p m
 unfolding freshOf withRegs withReg withPc withSp withBusy withInhibit withService withChip
@@ -93,8 +55,8 @@ fact (ANDI d K) k p m = (refl, refl, refl, refl)
 fact (ASR d) k p m = (refl, refl, refl, refl)
 fact (BCLR s) k p m = (refl, refl, refl, refl)
 fact (BLD d b) k p m = (refl, refl, refl, refl)
-fact (BRBC s t) k p m = branch-service _ _ _ _
-fact (BRBS s t) k p m = branch-service _ _ _ _
+fact (BRBC s t) k p m = refl
+fact (BRBS s t) k p m = refl
 fact BREAK k p m = refl
 fact (BSET s) k p m = (refl, refl, refl, refl)
 fact (BST d b) k p m = (refl, refl, refl, refl)
@@ -104,7 +66,7 @@ fact (COM d) k p m = (refl, refl, refl, refl)
 fact (CP d r) k p m = (refl, refl, refl, refl)
 fact (CPC d r) k p m = (refl, refl, refl, refl)
 fact (CPI d K) k p m = (refl, refl, refl, refl)
-fact (CPSE d r) k p m = skip-service _ _ _
+fact (CPSE d r) k p m = refl
 fact (DEC d) k p m = (refl, refl, refl, refl)
 fact (EOR d r) k p m = (refl, refl, refl, refl)
 fact (FMUL d r) k p m = (refl, refl, refl, refl)
@@ -115,20 +77,20 @@ fact IJMP k p m = refl
 fact (IN d A) k p m = refl
 fact (INC d) k p m = (refl, refl, refl, refl)
 fact (JMP t) k p m = refl
-fact (LDX d) k p m = load-service k _ _ _ _ _ m
-fact (LDXinc d) k p m = load-service k _ _ _ _ _ m
-fact (LDXdec d) k p m = load-service k _ _ _ _ _ m
-fact (LDYinc d) k p m = load-service k _ _ _ _ _ m
-fact (LDYdec d) k p m = load-service k _ _ _ _ _ m
-fact (LDZinc d) k p m = load-service k _ _ _ _ _ m
-fact (LDZdec d) k p m = load-service k _ _ _ _ _ m
-fact (LDDY d q) k p m = load-service k _ _ _ _ _ m
-fact (LDDZ d q) k p m = load-service k _ _ _ _ _ m
+fact (LDX d) k p m = refl
+fact (LDXinc d) k p m = refl
+fact (LDXdec d) k p m = refl
+fact (LDYinc d) k p m = refl
+fact (LDYdec d) k p m = refl
+fact (LDZinc d) k p m = refl
+fact (LDZdec d) k p m = refl
+fact (LDDY d q) k p m = refl
+fact (LDDZ d q) k p m = refl
 fact (LDI d K) k p m = (refl, refl, refl, refl)
 fact (LDS d at) k p m = refl
-fact LPM k p m = pointer-service _ _ _ _
-fact (LPMZ d) k p m = pointer-service _ _ _ _
-fact (LPMZinc d) k p m = pointer-service _ _ _ _
+fact LPM k p m = refl
+fact (LPMZ d) k p m = refl
+fact (LPMZinc d) k p m = refl
 fact (LSL d) k p m = refl
 fact (LSR d) k p m = (refl, refl, refl, refl)
 fact (MOV d r) k p m = (refl, refl, refl, refl)
@@ -140,9 +102,9 @@ fact (NEG d) k p m = (refl, refl, refl, refl)
 fact NOP k p m = (refl, refl, refl, refl)
 fact (OR d r) k p m = (refl, refl, refl, refl)
 fact (ORI d K) k p m = (refl, refl, refl, refl)
-fact (OUT A r) k p m = data-service _ _ _ _
+fact (OUT A r) k p m = refl
 fact (POP d) k p m = refl
-fact (PUSH d) k p m = data-service _ _ _ _
+fact (PUSH d) k p m = refl
 fact (RCALL t) k p m = refl
 fact RET k p m = refl
 fact RETI k p m = refl
@@ -151,22 +113,22 @@ fact (ROR d) k p m = (refl, refl, refl, refl)
 fact (SBC d r) k p m = (refl, refl, refl, refl)
 fact (SBCI d K) k p m = (refl, refl, refl, refl)
 fact (SBI A b) k p m = refl
-fact (SBIC A b) k p m = skip-service _ _ _
-fact (SBIS A b) k p m = skip-service _ _ _
+fact (SBIC A b) k p m = refl
+fact (SBIS A b) k p m = refl
 fact (SBIW d K) k p m = (refl, refl, refl, refl)
-fact (SBRC r b) k p m = skip-service _ _ _
-fact (SBRS r b) k p m = skip-service _ _ _
+fact (SBRC r b) k p m = refl
+fact (SBRS r b) k p m = refl
 fact SLEEP k p m = refl
-fact (STX r) k p m = store-service k _ _ _ _ _ m
-fact (STXdec r) k p m = store-service k _ _ _ _ _ m
-fact (STXinc r) k p m = store-service k _ _ _ _ _ m
-fact (STYdec r) k p m = store-service k _ _ _ _ _ m
-fact (STYinc r) k p m = store-service k _ _ _ _ _ m
-fact (STZdec r) k p m = store-service k _ _ _ _ _ m
-fact (STZinc r) k p m = store-service k _ _ _ _ _ m
-fact (STDY q r) k p m = store-service k _ _ _ _ _ m
-fact (STDZ q r) k p m = store-service k _ _ _ _ _ m
-fact (STS at r) k p m = data-service _ _ _ _
+fact (STX r) k p m = refl
+fact (STXdec r) k p m = refl
+fact (STXinc r) k p m = refl
+fact (STYdec r) k p m = refl
+fact (STYinc r) k p m = refl
+fact (STZdec r) k p m = refl
+fact (STZinc r) k p m = refl
+fact (STDY q r) k p m = refl
+fact (STDZ q r) k p m = refl
+fact (STS at r) k p m = refl
 fact (SUB d r) k p m = (refl, refl, refl, refl)
 fact (SUBI d K) k p m = (refl, refl, refl, refl)
 fact (SWAP d) k p m = (refl, refl, refl, refl)

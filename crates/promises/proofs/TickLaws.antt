@@ -25,6 +25,8 @@ use Rattle.execute.specs.declared.Done.{Done}
 use Rattle.tick.specs.declared.Offer.{Offer}
 use Rattle.tick.specs.declared.Offer.the-variants.{Vector, Nothing}
 use Rattle.tick.specs.declared.Answer.the-variants.{Ran, Entered}
+use Rattle.invariants.specs.Instructions.{inhibitedBy}
+use Rattle.invariants.proofs.Controls.{only-reti-and-sei-touch-the-flags}
 use Rattle.invariants.proofs.Ticks.{done-enters-not}
 use Rattle.invariants.proofs.Rule.{ticks-keep-the-rule}
 use Rattle.tick.proofs.Steps.{every-decided, every-due, busy-tick, free-tick, onward, every-tick}
@@ -83,7 +85,7 @@ module _ (p : List ℕ) where
   -- ---- an instruction of the stretch
   -- the core after it
   abbrev ranOn : Core → Instruction → Core
-  ranOn k op = withBusy (withKept (onward k) (doesOf (k .chip) op (keptOf k))) (waitsOf (k .chip) op)
+  ranOn k op = withBusy (withKept (inhibitedBy op (onward k)) (doesOf (k .chip) op (keptOf k))) (waitsOf (k .chip) op)
 
   idle : (k : Core) → k .busy ≡ 0 → withBusy k 0 ≡ k
   unfolding withBusy
@@ -168,10 +170,10 @@ module _ (p : List ℕ) where
   -- ---- in service
   serving-step : (op : Instruction) (c : Kind) (i : Core) (m : List ℕ) → i .busy ≡ 0 → Fact c op i p m
       → (eqb (number (executedTick (executed decodeOf i op p m))) 18 && isReturn c) ≡ false → executed decodeOf i op p m .core .«in_service» ≡ i .«in_service»
-  unfolding withRegs withBusy
+  unfolding withRegs withBusy withInhibit
   serving-step op registerOnly i m b f r = rw (ap (λ (i : Core). executed decodeOf i op p m) (sym (idle i b)), f .0)
   serving-step op return i m b f r = clash (subst (λ op. (eqb (number (executedTick (executed decodeOf i op p m))) 18 && true) ≡ false) f r)
-  serving-step op other i m b f r = f
+  serving-step op other i m b f r = only-reti-and-sei-touch-the-flags decodeOf op i p m .1 ∙ rw f
 
   serve-law : (o : Offer) (s : State) → s .core .«in_service» ≡ true → returnsIn p (pc s) (tickAt p o s) ≡ false → next p o s .core .«in_service» ≡ true
   unfolding withBusy withInhibit withPc withService

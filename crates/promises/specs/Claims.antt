@@ -1,9 +1,9 @@
 -- WHAT ELSE IS CLAIMED: every statement that README's table 'Proved' has beside the three demands. A line names a statement; the comment above it names the file
 -- where that stands.
 use Rattle.instruction.specs.Fields.{FieldsInRange, SecondWordAlone}
-use Rattle.invariants.specs.Instructions.{InstructionsStayInRange, InstructionsWaitAtMost3, OtherRegistersKept, RegisterOnlyKeepsTheRest}
+use Rattle.invariants.specs.Instructions.{InstructionsStayInRange, InstructionsWaitAtMost3, OtherRegistersKept, RegisterOnlyKeepsTheRest, OnlyRetiAndSeiTouchTheFlags}
 use Rattle.invariants.specs.Ticks.{TicksAnswerTickNumbers}
-use Rattle.invariants.specs.Rule.{InstructionsKeepTheRule, TicksKeepTheRule, RulesDifferWhereAsked}
+use Rattle.invariants.specs.Rule.{InstructionsKeepTheRule, TicksKeepTheRule, RulesDifferWhereAsked, PointersWaitByTheRule}
 use Rattle.snapshot.specs.Snapshot.{OldSnapshotsReadUnchanged}
 use Rattle.source.specs.Bench.{BenchOnTheRust, FreshCoresAreSound}
 use Rattle.manual.specs.Witnesses.{Agreements}
@@ -22,6 +22,7 @@ pub record Claims : Type 0 where
   pub instructions-wait : InstructionsWaitAtMost3
   pub other-registers : OtherRegistersKept
   pub register-only : RegisterOnlyKeepsTheRest
+  pub flags : OnlyRetiAndSeiTouchTheFlags
   -- crates/invariants/specs/Ticks.antt: the numbers that a tick answers with
   pub tick-numbers : TicksAnswerTickNumbers
   -- crates/table/specs/Calls.antt: the snapshot after a call that is not refused
@@ -34,12 +35,13 @@ pub record Claims : Type 0 where
   -- crates/source/specs/Bench.antt: 01's bench sheet on the Rust's definition
   pub bench-on-the-rust : BenchOnTheRust
   pub fresh-cores : FreshCoresAreSound
-  -- crates/manual/specs/Witnesses.antt: the waits of POP and PUSH, and ADIW under chip, by the manual with every switch off
+  -- crates/manual/specs/Witnesses.antt: by the manual with every switch off, what chip does its way, and the waits of what goes by no pointer
   pub agreements : Agreements
-  -- crates/invariants/specs/Rule.antt: the rule, source or chip: nothing changes it, and ADIW alone asks for it
+  -- crates/invariants/specs/Rule.antt: the rule, source or chip: nothing changes it, ADIW, pointer access and SEI alone ask for it, and the waits of pointer access
   pub instructions-rule : InstructionsKeepTheRule
   pub ticks-rule : TicksKeepTheRule
   pub rules-differ : RulesDifferWhereAsked
+  pub pointer-waits : PointersWaitByTheRule
   -- crates/snapshot/specs/Snapshot.antt: what read before there was a rule reads the same, with rule source
   pub old-snapshots : OldSnapshotsReadUnchanged
   -- crates/hex/specs/Answers.antt: HEX files, each of 02's numbers 50 to 57 exactly where its condition holds, and at which line

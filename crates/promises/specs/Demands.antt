@@ -8,7 +8,7 @@ use Rattle.table.specs.Calls.{RegistersByTheTable, WritesByTheTable, ReadsByThe
 use Rattle.source_decode.specs.RustDecode.{DecodesAsTheRust}
 use Rattle.source.specs.Statement.{EqualsTheRust, RefusedExactlyWhereItPanics, CodeEqualsTheRust, InPlaceEqualsTheRust}
 use Rattle.manual_opcodes.specs.Opcodes.{DecodesAsTheManual}
-use Rattle.manual.specs.Statement.{EqualsTheManual, EqualsBySwitches, AdiwAlone, LoadsAlone, StoresAlone, SeiAlone, UnknownAlone, OutsideAlone, EndAlone, TargetAlone, PointersAlone, EqualsUnlessListed}
+use Rattle.manual.specs.Statement.{EqualsTheManual, EqualsBySwitches, AdiwAlone, LoadsAlone, StoresAlone, SeiAlone, UnknownAlone, OutsideAlone, EndAlone, TargetAlone, PointersAlone, EqualsUnlessListed, ChipEqualsTheManual}
 use Rattle.manual.specs.Witnesses.{Witnesses}
 use Rattle.promises.specs.OneOutcome.{OneOutcome}
 use Rattle.promises.specs.BenchSheet.{BenchSheet}
@@ -63,8 +63,9 @@ pub record Demand2 : Type 0 where
   pub end : EndAlone
   pub target : TargetAlone
   pub pointers : PointersAlone
-  -- and the manual itself, off the list of those that remain under the rule
+  -- and the manual itself, off the list of those that remain under the rule; the same under chip, with the list written out
   pub unless-listed : EqualsUnlessListed
+  pub chip : ChipEqualsTheManual
   -- crates/manual/specs/Witnesses.antt
   pub witnesses : Witnesses
   -- crates/run/specs/Run.antt

@@ -6,7 +6,7 @@
 --
 -- The stretch is n consecutive words of program, from where PC stands, each an instruction of 01's register-only list, ending at PC 65,535 or before.
 -- The core is neither busy nor in service at its start; all else is as it may be: registers, SREG, SP, data, inhibit set or clear, and the rule, source or chip.
--- Instructions of the stretch may set and clear any flag, I too.
+-- Instructions of the stretch may set and clear any flag, I too; under chip SEI also sets inhibit, which puts an entry off.
 -- Two runs begin there. One is offered what one likes, at each tick a vector or none. The plain run is offered none. A run is at the end when PC stands
 -- behind the stretch and the core is neither busy nor in service; the two are there first after `long` and after `short` ticks.
 --

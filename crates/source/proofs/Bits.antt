@@ -1,7 +1,7 @@
 -- asr to swap of the Rust are the port's. cbi and sbi panic where their byte is not in data, the others never.
 -- Assumes nothing.
 use mathlib.Core.Path.{_≡_, refl, _∙_}
-use mathlib.Core.Bool.{Bool, true, false}
+use mathlib.Core.Bool.{Bool, true, false, _&&_}
 use Prim.Native.Nat.{ℕ, _+_, _*_, _/_, _%_, _<_}
 use native.Mathlib.Omega.{arith}
 use lib.Dec.{eqb, ltb, leb}
@@ -15,8 +15,9 @@ use Rattle.basis.proofs.Every.{agreed}
 use Rattle.basis.specs.Bytes.{Bytes}
 use Rattle.bits.proofs.Tops.{bit7}
 use Rattle.memory.specs.Memory.{bitSetOf}
-use Rattle.cores.specs.State.{Sound, reg, withReg, flag}
-use Rattle.cores.specs.Bits.{asrOf, flagMadeOf, bldOf, bstOf, lsrOf, rorOf, swapOf}
+use Rattle.rule.specs.Rule.{bsetInhibits}
+use Rattle.cores.specs.State.{Sound, reg, withReg, withInhibit, flag}
+use Rattle.cores.specs.Bits.{asrOf, bclrOf, bldOf, bsetOf, bstOf, lsrOf, rorOf, swapOf}
 use Rattle.source.specs.Monad.{Self, ok, panic, withCore, withDs, if_then_else_}
 use Rattle.source.specs.Integers.{u8-as-i8, signed-as-u8, halved}
 use Rattle.source.specs.Registers.{ds·read, ds·write, ds·set-bit}
@@ -33,6 +34,14 @@ ror-value : (c : Bool) (a : ℕ) → a < 256 → (if c then bitOr (a / 2) 128 el
 ror-value true a h = or-shifted-r 1 7 (a / 2) (omega arith) ∙ omega arith
 ror-value false a h = omega arith
 
+-- under source BSET sets no inhibit
+no-safe-instruction : {chip : Bool} (b : ℕ) → chip ≡ false → bsetInhibits chip b ≡ false
+no-safe-instruction b c = rw c (never (eqb b 7))
+  where
+    never : (sei : Bool) → sei && false ≡ false
+    never true = refl
+    never false = refl
+
 module _ (s : Self) (w : Sound (s .core)) where
   pub asr-is : (d : ℕ) → d < 32 → asr d s ≡ leaves s (asrOf (s .core) d)
   unfolding asr withReg bit
@@ -45,7 +54,7 @@ module _ (s : Self) (w : Sound (s .core)) where
       let x = a / 2 + one (leb 128 a) * 128 in
       rw (get-ok s d, set-ok s d, cznvs-ok, asr-value a ha, bit7 x (omega arith), xor-is (leb 128 x) (bit a 0))
 
-  pub bclr-is : (b : ℕ) → b < 8 → bclr b s ≡ leaves s (flagMadeOf (s .core) b false)
+  pub bclr-is : (b : ℕ) → b < 8 → bclr b s ≡ leaves s (bclrOf (s .core) b)
   unfolding bclr
   bclr-is b hb = rw (lt-ltb b 8 hb, put-ok s b false (w .sreg-lt) hb)
 
@@ -61,9 +70,10 @@ module _ (s : Self) (w : Sound (s .core)) where
   pub bld-is : (d b : ℕ) → d < 32 → b < 8 → bld d b s ≡ leaves s (bldOf (s .core) d b)
   bld-is d b hd hb = bld-by d b (flag (s .core) 6) refl hd hb
 
-  pub bset-is : (b : ℕ) → b < 8 → bset b s ≡ leaves s (flagMadeOf (s .core) b true)
-  unfolding bset
-  bset-is b hb = rw (lt-ltb b 8 hb, put-ok s b true (w .sreg-lt) hb)
+  -- under source
+  pub bset-is : s .core .chip ≡ false → (b : ℕ) → b < 8 → bset b s ≡ leaves s (bsetOf (s .core) b)
+  unfolding bset withInhibit
+  bset-is c b hb = rw (lt-ltb b 8 hb, put-ok s b true (w .sreg-lt) hb, no-safe-instruction b c)
 
   pub bst-is : (d b : ℕ) → d < 32 → b < 8 → bst d b s ≡ leaves s (bstOf (s .core) d b)
   unfolding bst

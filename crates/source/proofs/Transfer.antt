@@ -12,6 +12,7 @@ use borrow.Author.Tests.{lt-ltb, le-ltb, ltb-true, ltb-false, eqb-true, eqb-fals
 use Rattle.basis.specs.Pick.{pick}
 use Rattle.basis.specs.Bit.{up, down}
 use Rattle.basis.proofs.Both.{both-true}
+use Rattle.rule.specs.Rule.{loadWaits, storeWaits}
 use Rattle.cores.specs.State.{Sound, reg, word, withReg, withWord, withBusy, withSp, withPc, out}
 use Rattle.cores.specs.Transfer.{reachOf, dataOf, setDataOf, inOf, pointedOf, wordIf, ldOf, stOf, ldsOf, lpmOf, popOf, pushOf, stsOf}
 use Rattle.cores.specs.Flow.{overSecond}
@@ -62,40 +63,50 @@ sts-arm r k = do
   pc+= 1
   return true
 
+-- the waits under source
+load-source : {chip : Bool} → chip ≡ false → loadWaits chip ≡ 2
+unfolding loadWaits
+load-source c = rw c
+
+store-source : {chip : Bool} → chip ≡ false → storeWaits chip ≡ 1
+unfolding storeWaits
+store-source c = rw c
+
 module _ (s : Self) (w : Sound (s .core)) where
   pub in-is : (d A : ℕ) → d < 32 → in- d A s ≡ pick (reachOf A (length (s .ds))) (leaves s (inOf (s .core) d A (s .ds))) panic
   unfolding in-
   in-is d A hd = let e = w .count in let h = w .sp-lt in simp (io-load, after-pick, set-ok)
 
-  pub ld-is : (d p q : ℕ) (dec inc : Bool) → d < 32 → p < 31
+  -- under source
+  pub ld-is : s .core .chip ≡ false → (d p q : ℕ) (dec inc : Bool) → d < 32 → p < 31
       → ld d p q dec inc s ≡ pick (reachOf (pointedOf (s .core) p dec + q) (length (s .ds))) (leaves s (ldOf (s .core) d p q dec inc (s .ds))) panic
   unfolding ld pointedOf wordIf withBusy withReg
-  ld-is d p q false false hd hp = let e = w .count in let h = w .sp-lt in simp (get-word-ok, load-any, set-ok, after-pick)
-  ld-is d p q true false hd hp = let e = w .count in let h = w .sp-lt in simp (get-word-ok, set-word-ok, load-any, set-ok, after-pick, count-set)
-  ld-is d p q false true hd hp = let e = w .count in let h = w .sp-lt in simp (get-word-ok, set-word-ok, load-any, set-ok, after-pick, count-set)
-  ld-is d p q true true hd hp = let e = w .count in let h = w .sp-lt in simp (get-word-ok, set-word-ok, load-any, set-ok, after-pick, count-set, count-set2)
+  ld-is c d p q false false hd hp = let e = w .count in let h = w .sp-lt in rw (load-source c) (simp (get-word-ok, load-any, set-ok, after-pick))
+  ld-is c d p q true false hd hp = let e = w .count in let h = w .sp-lt in rw (load-source c) (simp (get-word-ok, set-word-ok, load-any, set-ok, after-pick, count-set))
+  ld-is c d p q false true hd hp = let e = w .count in let h = w .sp-lt in rw (load-source c) (simp (get-word-ok, set-word-ok, load-any, set-ok, after-pick, count-set))
+  ld-is c d p q true true hd hp = let e = w .count in let h = w .sp-lt in rw (load-source c) (simp (get-word-ok, set-word-ok, load-any, set-ok, after-pick, count-set, count-set2))
 
-  pub st-is : (r p q : ℕ) (dec inc : Bool) → T (not (dec && inc)) → r < 32 → p < 31
+  pub st-is : s .core .chip ≡ false → (r p q : ℕ) (dec inc : Bool) → T (not (dec && inc)) → r < 32 → p < 31
       → st r p q dec inc s ≡ pick (reachOf (pointedOf (s .core) p dec + q) (length (s .ds))) (leavesOut s (stOf (s .core) r p q dec inc (s .ds))) panic
   unfolding st pointedOf wordIf withBusy withReg
-  st-is r p q false false n hr hp =
+  st-is c r p q false false n hr hp =
       let e = w .count in
       let h = w .sp-lt in
       let b = w .reg-lt r in
-      simp (get-word-ok, store-any, after-pick)
-  st-is r p q true false n hr hp =
+      rw (store-source c) (simp (get-word-ok, store-any, after-pick))
+  st-is c r p q true false n hr hp =
       let e = w .count in
       let h = w .sp-lt in
       let at = down (word (s .core) p) 1 in
       let b = byte-set (set (s .core .regs) p (at % 256)) (p + 1) (at / 256) (byte-set (s .core .regs) p (at % 256) (w .reg-lt) (omega arith)) (omega arith) r in
-      simp (get-word-ok, set-word-ok, store-any, after-pick, count-set)
-  st-is r p q false true n hr hp =
+      rw (store-source c) (simp (get-word-ok, set-word-ok, store-any, after-pick, count-set))
+  st-is c r p q false true n hr hp =
       let e = w .count in
       let h = w .sp-lt in
       let b = w .reg-lt r in
       let g = ap length (store-regs (withBusy (s .core) 1) (word (s .core) p + q) (reg (s .core) r) (s .ds)) ∙ e in
-      simp (get-word-ok, set-word-ok, store-any, after-pick)
-  st-is r p q true true n hr hp = absurd n
+      rw (store-source c) (simp (get-word-ok, set-word-ok, store-any, after-pick))
+  st-is c r p q true true n hr hp = absurd n
 
   pub ldi-is : (d K : ℕ) → d < 32 → ldi d K s ≡ leaves s (withReg (s .core) d K)
   unfolding ldi

@@ -13,10 +13,13 @@ ld-spec =
     (tie.spec
     (λ c κs. search needs)
     (λ c κs. search needs)
+    (λ c κs. search needs)
     (λ c. search needs)
     (λ c. search needs)
     (λ c κs. search needs)
     (λ c κs. search needs)
     (λ c κs. search needs)
     (λ c κs. search needs)
-    (λ c. rw (c .set-word-if2 .ensures, c .before .wrapping-add-u16 .ensures, c .before .before .put-register .ensures, c .before .before .before .get-data-space .ensures, c .before .before .before .before .set-word-if .ensures, c .before .before .before .before .before .pointed .ensures)))
+    (λ c.
+    let p = c .before .before .before in
+    rw (c .set-word-if2 .ensures, c .before .wrapping-add-u16 .ensures, c .before .before .put-register .ensures, p .get-data-space .ensures, p .before .set-word-if .ensures, p .before .before .pointed .ensures, p .before .before .before .load-waits .ensures)))

@@ -14,15 +14,18 @@ st-spec =
     (tie.spec
     (λ c κs. search needs)
     (λ c κs. search needs)
-    (λ c. search needs)
-    (λ c. search needs)
-    (λ c κs. search needs)
-    (λ c κs. search needs)
-    (λ c κs. search needs)
     (λ c κs. search needs)
     (λ c. search needs)
-    (λ c. let stored = c .before .before .before .before .set-data-space .ensures in
+    (λ c. search needs)
+    (λ c κs. search needs)
+    (λ c κs. search needs)
+    (λ c κs. search needs)
+    (λ c κs. search needs)
+    (λ c. search needs)
+    (λ c.
+    let stored = c .before .before .before .before .set-data-space .ensures in
+    let p = c .before .before .before .before .before .before in
     record {
-      core = rw (c .set-word-if2 .ensures, stored .core, c .before .wrapping-add-u16 .ensures, c .before .before .before .before .before .before .get-register .ensures, c .before .before .before .before .before .before .before .set-word-if .ensures, c .before .before .before .before .before .before .before .before .pointed .ensures);
-      bytes = stored .bytes ∙ rw (c .before .before .before .before .before .before .get-register .ensures, c .before .before .before .before .before .before .before .set-word-if .ensures, c .before .before .before .before .before .before .before .before .pointed .ensures);
+      core = rw (c .set-word-if2 .ensures, stored .core, c .before .wrapping-add-u16 .ensures, p .get-register .ensures, p .before .set-word-if .ensures, p .before .before .pointed .ensures, p .before .before .before .store-waits .ensures);
+      bytes = stored .bytes ∙ rw (p .get-register .ensures, p .before .set-word-if .ensures, p .before .before .pointed .ensures, p .before .before .before .store-waits .ensures);
     }))
