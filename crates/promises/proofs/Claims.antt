@@ -7,6 +7,7 @@ use Rattle.invariants.proofs.Registers.{other-registers-kept, register-only-kee
 use Rattle.invariants.proofs.Ticks.{ticks-answer-tick-numbers}
 use Rattle.invariants.proofs.Controls.{only-reti-and-sei-touch-the-flags, instructions-keep-the-rule, pointers-wait-by-the-rule}
 use Rattle.invariants.proofs.Rule.{ticks-keep-the-rule, rules-differ-where-asked}
+use Rattle.sampling.proofs.Sampling.{safe-after-sei, sampling-routine}
 use Rattle.snapshot.proofs.RoundTrips.{old-snapshots-read-unchanged}
 use Rattle.source.proofs.Bench.{bench-on-the-rust, fresh-cores-are-sound}
 use Rattle.manual.proofs.Witnesses.{agreements}
@@ -46,6 +47,8 @@ claims =
       ticks-rule = ticks-keep-the-rule;
       rules-differ = rules-differ-where-asked;
       pointer-waits = pointers-wait-by-the-rule;
+      after-sei = safe-after-sei;
+      sampling = sampling-routine;
       old-snapshots = old-snapshots-read-unchanged;
       hex-numbers = each-number-exactly;
       hex-given-back = given-back;

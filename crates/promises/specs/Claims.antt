@@ -4,6 +4,7 @@ use Rattle.instruction.specs.Fields.{FieldsInRange, SecondWordAlone}
 use Rattle.invariants.specs.Instructions.{InstructionsStayInRange, InstructionsWaitAtMost3, OtherRegistersKept, RegisterOnlyKeepsTheRest, OnlyRetiAndSeiTouchTheFlags}
 use Rattle.invariants.specs.Ticks.{TicksAnswerTickNumbers}
 use Rattle.invariants.specs.Rule.{InstructionsKeepTheRule, TicksKeepTheRule, RulesDifferWhereAsked, PointersWaitByTheRule}
+use Rattle.sampling.specs.Sampling.{SafeAfterSei, SamplingRoutine}
 use Rattle.snapshot.specs.Snapshot.{OldSnapshotsReadUnchanged}
 use Rattle.source.specs.Bench.{BenchOnTheRust, FreshCoresAreSound}
 use Rattle.manual.specs.Witnesses.{Agreements}
@@ -42,6 +43,9 @@ pub record Claims : Type 0 where
   pub ticks-rule : TicksKeepTheRule
   pub rules-differ : RulesDifferWhereAsked
   pub pointer-waits : PointersWaitByTheRule
+  -- crates/sampling/specs/Sampling.antt: under chip the instruction behind SEI runs before any entry; a sampling routine under both rules
+  pub after-sei : SafeAfterSei
+  pub sampling : SamplingRoutine
   -- crates/snapshot/specs/Snapshot.antt: what read before there was a rule reads the same, with rule source
   pub old-snapshots : OldSnapshotsReadUnchanged
   -- crates/hex/specs/Answers.antt: HEX files, each of 02's numbers 50 to 57 exactly where its condition holds, and at which line

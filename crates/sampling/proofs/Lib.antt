@@ -1,0 +1,2 @@
+-- `Sampling`: the theorem, and the routine computed.
+pub mod Sampling
