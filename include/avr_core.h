@@ -22,7 +22,10 @@
 #define AVR_NO_OFFER 65536u
 /* The rule of the core in a snapshot: chip where this bit of this byte is set, source where it is clear, as in a snapshot of zeros and in every one written before there was a rule.
  * `snapshot[AVR_RULE_BYTE] |= AVR_RULE_CHIP` sets chip, `snapshot[AVR_RULE_BYTE] &= (uint8_t)~AVR_RULE_CHIP` source; no call changes it.
- * Under source ADIW's V is that of the Rust which was ported, under chip the AVR manual's, and S with it. Nothing else differs. */
+ * Under source everything goes as in the Rust which was ported. Under chip this goes as in the AVR manual, and nothing else differs:
+ *   ADIW's V, and S with it
+ *   LD and LDD wait for one tick, and not for two; ST and STD for none, and not for one
+ *   behind SEI (BSET 7) one instruction runs before an interrupt is entered */
 #define AVR_RULE_BYTE 37
 #define AVR_RULE_CHIP 0x04u
 /* The bytes of the HEX text of a program of `n` bytes, the room that avr_hex_write needs. */

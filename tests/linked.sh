@@ -42,8 +42,8 @@ try_first() { # PROGRAM: README's first program on its file, on one with a wrong
     note $? "$1 on no file"
 }
 
-says_both_rules() { # COMMAND...: prints ADIW's SREG under each rule
-    [ "$("$@")" = "$(printf 'source: SREG 0C\nchip: SREG 14')" ]
+says_both_rules() { # COMMAND...: prints ADIW's SREG and the sample taken behind SEI under each rule
+    [ "$("$@")" = "$(printf 'source: SREG 0C, sample 05\nchip: SREG 14, sample 2A')" ]
 }
 
 says_what_to_run() { # host/rust, with no archive, names the command that writes it

@@ -1,5 +1,5 @@
-/* Runs document 01's example through the C interface, writes it as a HEX file and reads that back, and runs line 2 of 01's bench sheet under both rules; fails where an
- * answer is not the one that the documents name. */
+/* Runs document 01's example through the C interface, writes it as a HEX file and reads that back, and runs line 2 of 01's bench sheet and a sampling routine under both rules;
+ * fails where an answer is not the one that the documents name. */
 #include "avr_core.h"
 #include <stdio.h>
 #include <string.h>
@@ -50,6 +50,18 @@ static int goes_by_the_rule(void) {
     return leaves_sreg(source, 0x0C) && leaves_sreg(chip, 0x14) && leaves_sreg(again, 0x0C); /* N V, N S */
 }
 
+/* SEI and ST X,R16 while a handler waits, which takes the sample: LDS R17,0; RETI. The old sample is 05, the new one 2A. */
+static int takes(uint8_t rule, uint8_t sample) {
+    static const uint8_t routine[] = {0x78, 0x94, 0x0C, 0x93, 0x10, 0x91, 0x00, 0x00, 0x18, 0x95};
+    uint8_t snapshot[AVR_SNAPSHOT_BYTES] = {[16] = 0x2A, [36] = 15, [AVR_RULE_BYTE] = rule}, data[16] = {0x05};
+    uint32_t ticks = 0;
+    if (avr_run(snapshot, sizeof snapshot, routine, sizeof routine, data, sizeof data, 2, 8, &ticks) != 24 || ticks != 8) return 0;
+    printf("%s: sample %02X\n", rule ? "chip" : "source", snapshot[17]);
+    return snapshot[17] == sample;
+}
+
+static int is_safe_behind_sei(void) { return takes(0, 0x05) && takes(AVR_RULE_CHIP, 0x2A); }
+
 int main(void) {
-    return ticks_and_runs() && writes_and_reads() && goes_by_the_rule() ? 0 : 1;
+    return ticks_and_runs() && writes_and_reads() && goes_by_the_rule() && is_safe_behind_sei() ? 0 : 1;
 }

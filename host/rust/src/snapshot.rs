@@ -15,7 +15,8 @@ const INHIBIT: u8 = 0x10;
 const IN_SERVICE: u8 = 0x08;
 const CHIP: u8 = 0x04;
 
-/// Whose rule a core goes by. Under `Chip` ADIW's V is the AVR manual's, and S with it; nothing else differs.
+/// Whose rule a core goes by. Under `Chip` three things go as in the AVR manual, and nothing else differs: ADIW's V, and S with it; the waits of LD and LDD, one and not two, and
+/// of ST and STD, none and not one; and behind SEI one instruction runs before an interrupt is entered.
 #[derive(Clone, Copy, PartialEq, Eq, Debug, Default)]
 pub enum Rule {
     /// That of the Rust which was ported. Fresh cores have it, and snapshots written before there was a rule.
@@ -222,6 +223,44 @@ mod tests {
             snapshot.set_register(25, 0x80).unwrap();
             assert_eq!(tick(&mut snapshot, &[0x01, 0x96], &mut [], NO_OFFER), 18);
             assert_eq!(snapshot, bytes(&[(24, 0x02), (25, 0x80), (32, sreg), (34, 1), (37, last)]).into());
+        }
+    }
+
+    /// Pointer loads and stores, also at SREG's address, and LDS and STS, which go by no pointer.
+    #[test]
+    fn pointer_access_waits_by_the_rule() {
+        let waits = |rule, program: &[u8], x| {
+            let mut snapshot = fresh(rule);
+            snapshot.set_register(26, x).unwrap();
+            assert_eq!(tick(&mut snapshot, program, &mut [0], NO_OFFER), 18);
+            snapshot.busy()
+        };
+        let (ld, st, lds, sts) = ([0x0C, 0x91], [0x0C, 0x93], [0x00, 0x91, 0, 0], [0x00, 0x93, 0, 0]);
+        for (rule, load, store) in [(Rule::Source, 2, 1), (Rule::Chip, 1, 0)] {
+            for x in [0, 0x3D, 0x3E, 0x3F] {
+                assert_eq!((waits(rule, &ld, x), waits(rule, &st, x)), (load, store));
+            }
+            assert_eq!((waits(rule, &lds, 0), waits(rule, &sts, 0)), (2, 1));
+        }
+    }
+
+    /// BSET and BCLR of each flag, with I clear and set; and I set by OUT and STS, which write SREG.
+    #[test]
+    fn sei_alone_inhibits_and_under_chip() {
+        let inhibits = |rule, program: &[u8], sreg| {
+            let mut snapshot = fresh(rule);
+            snapshot.set_sreg(sreg);
+            snapshot.set_register(16, 0x80).unwrap();
+            assert_eq!(tick(&mut snapshot, program, &mut [], NO_OFFER), 18);
+            snapshot.inhibit()
+        };
+        for rule in [Rule::Source, Rule::Chip] {
+            for (flag, sreg) in (0..8).flat_map(|flag| [(flag, 0x00), (flag, 0x80)]) {
+                assert_eq!(inhibits(rule, &[0x08 | flag << 4, 0x94], sreg), rule == Rule::Chip && flag == 7);
+                assert!(!inhibits(rule, &[0x88 | flag << 4, 0x94], sreg));
+            }
+            assert!(!inhibits(rule, &[0x0F, 0xBF], 0)); // OUT 0x3F,R16
+            assert!(!inhibits(rule, &[0x00, 0x93, 0x3F, 0x00], 0)); // STS 0x3F,R16
         }
     }
 
