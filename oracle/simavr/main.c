@@ -1,6 +1,7 @@
-/* Holds the port against simavr, under source and again under chip: every arithmetic instruction, all operands, registers and SREG after one instruction.
+/* Holds the port against simavr, under source and again under chip: timing, and every arithmetic instruction, all operands, registers and SREG after one instruction.
  * Under source the port keeps the Rust's V of ADIW (docs/DIFFERENCES.md); it may differ there, and in S with it, and nowhere else. Under chip it may not differ at all. */
 #include "instructions.h"
+#include "timing.h"
 #include <stdio.h>
 #include <string.h>
 
@@ -82,7 +83,9 @@ static int agrees(enum rule rule) {
     return all.other == 0;
 }
 
-int main(void) {
+int main(int count, char **words) {
+    int timing = timing_agrees();
+    if (count > 1 && strcmp(words[1], "timing") == 0) return timing ? 0 : 1;
     int source = agrees(SOURCE), chip = agrees(CHIP);
-    return source && chip ? 0 : 1;
+    return timing && source && chip ? 0 : 1;
 }
