@@ -1,4 +1,6 @@
-//! The cases. Each says what it compared, or the first difference.
+//! The cases, each under a rule. Each says what it compared, or the first difference.
+
+use avr_core::Rule;
 
 use crate::compare::{places, PLACES};
 use crate::layout::{log, log_of, with_log, Log, Reading, HEAT_INDEX, HEAT_INDEX_TIMER, LOG_PLACE};
@@ -27,16 +29,16 @@ fn same_under_timer(outcome: &Outcome, log: &Log, what: &str) -> Result<(), Stri
     same_report(outcome, log, what)
 }
 
-pub fn without_interrupts() -> Verdict {
+pub fn without_interrupts(rule: Rule) -> Verdict {
     for image in [HEAT_INDEX, HEAT_INDEX_TIMER] {
-        let outcome = Machine::fresh(image).finish(|_| false)?;
+        let outcome = Machine::fresh(image, rule).finish(|_| false)?;
         same_report(&outcome, &log_of(image), "no offer")?;
     }
     Ok("2 runs".into())
 }
 
-pub fn an_offer_held_at_every_tick() -> Verdict {
-    let outcome = Machine::fresh(HEAT_INDEX_TIMER).finish(|_| true)?;
+pub fn an_offer_held_at_every_tick(rule: Rule) -> Verdict {
+    let outcome = Machine::fresh(HEAT_INDEX_TIMER, rule).finish(|_| true)?;
     same_under_timer(&outcome, &log_of(HEAT_INDEX_TIMER), "held")?;
     if outcome.entries < 1_000 {
         return Err(format!("only {} entries", outcome.entries));
@@ -45,8 +47,8 @@ pub fn an_offer_held_at_every_tick() -> Verdict {
 }
 
 /// From each tick of the undisturbed run on, the vector is offered until it is entered. All ends alike, registers and flags too.
-pub fn an_entry_from_every_tick() -> Verdict {
-    let (mut machine, log) = (Machine::fresh(HEAT_INDEX_TIMER), log_of(HEAT_INDEX_TIMER));
+pub fn an_entry_from_every_tick(rule: Rule) -> Verdict {
+    let (mut machine, log) = (Machine::fresh(HEAT_INDEX_TIMER, rule), log_of(HEAT_INDEX_TIMER));
     let undisturbed = machine.clone().finish(|_| false)?;
     for tick in 0.. {
         let outcome = machine.clone().finish(|machine| machine.entries() == 0)?;
@@ -67,14 +69,14 @@ fn an_hour_apart() -> Log {
 }
 
 /// Interrupts at every choice of the five places of the compare, over the story's log and the image's own.
-pub fn two_stamps_an_hour_apart_compared_across_an_interrupt() -> Verdict {
+pub fn two_stamps_an_hour_apart_compared_across_an_interrupt(rule: Rule) -> Verdict {
     let places = places(&HEAT_INDEX_TIMER[..LOG_PLACE])?;
     for log in [an_hour_apart(), log_of(HEAT_INDEX_TIMER)] {
         let program = with_log(HEAT_INDEX_TIMER, &log);
         for choice in 0..1 << PLACES {
             let chosen =
                 |machine: &mut Machine| (0..PLACES).any(|place| choice >> place & 1 == 1 && machine.is_about_to_run(places[place]));
-            let outcome = Machine::fresh(&program).finish(chosen)?;
+            let outcome = Machine::fresh(&program, rule).finish(chosen)?;
             same_under_timer(&outcome, &log, &format!("choice {choice:05b}"))?;
             if (outcome.entries == 0) != (choice == 0) {
                 return Err(format!("choice {choice:05b}: {} entries", outcome.entries));
@@ -85,12 +87,12 @@ pub fn two_stamps_an_hour_apart_compared_across_an_interrupt() -> Verdict {
 }
 
 /// The emulator of the story: it comes out of the interrupt with changed flags. The case above would see it.
-pub fn the_old_fault_sets_14_00_against_13_00() -> Verdict {
+pub fn the_old_fault_sets_14_00_against_13_00(rule: Rule) -> Verdict {
     let program = with_log(HEAT_INDEX_TIMER, &an_hour_apart());
     let wrongly_paired = native::report(&log(&[(NOON + HOUR, 301)], &[(NOON + HOUR, 49)]));
     for (step, place) in places(&HEAT_INDEX_TIMER[..LOG_PLACE])?.into_iter().enumerate() {
         let mut faulty = false;
-        let outcome = Machine::fresh(&program).finish(|machine| {
+        let outcome = Machine::fresh(&program, rule).finish(|machine| {
             if machine.has_returned() && !std::mem::replace(&mut faulty, true) {
                 machine.lose_flags();
             }
@@ -110,13 +112,13 @@ fn readings(random: &mut Random, lowest: i16, values: u32) -> Vec<Reading> {
 }
 
 /// Readings corrected at random, and the vector offered at random ticks.
-pub fn corrected_logs_under_random_offers() -> Verdict {
+pub fn corrected_logs_under_random_offers(rule: Rule) -> Verdict {
     let mut random = Random(0x5EED_0000_2026_1115);
     for number in 0..1_000 {
         let log = log(&readings(&mut random, -400, 1_001), &readings(&mut random, 0, 101));
         let every = 1 + random.below(200);
         let program = with_log(HEAT_INDEX_TIMER, &log);
-        let outcome = Machine::fresh(&program).finish(|_| random.below(every) == 0)?;
+        let outcome = Machine::fresh(&program, rule).finish(|_| random.below(every) == 0)?;
         same_under_timer(&outcome, &log, &format!("log {number}"))?;
     }
     Ok("1000 runs".into())

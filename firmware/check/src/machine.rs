@@ -1,5 +1,7 @@
 //! An image on the core, a tick at a time, with the timer's vector offered or not.
 
+use avr_core::{Rule, Snapshot};
+
 use crate::layout::{Report, OVERFLOWS_PLACE, REPORT_BYTES, REPORT_PLACE, TIMER_VECTOR};
 
 const WAITED: u32 = 16;
@@ -27,9 +29,11 @@ pub struct Machine<'a> {
 }
 
 impl<'a> Machine<'a> {
-    /// A fresh core. Data is not zero, so that an image which reads what it did not write shows.
-    pub fn fresh(program: &'a [u8]) -> Self {
-        Machine { program, snapshot: [0; avr_core::SNAPSHOT_BYTES], data: vec![0xA5; 16_384], entries: 0 }
+    /// A fresh core with this rule. Data is not zero, so that an image which reads what it did not write shows.
+    pub fn fresh(program: &'a [u8], rule: Rule) -> Self {
+        let mut snapshot = Snapshot::fresh(0);
+        snapshot.set_rule(rule);
+        Machine { program, snapshot: snapshot.into(), data: vec![0xA5; 16_384], entries: 0 }
     }
 
     fn pc(&self) -> u16 {

@@ -1,4 +1,4 @@
-//! Runs the two images on the proved core and compares what they stored with what a native build of the same C stores.
+//! Runs the two images on the proved core, under source and under chip, and compares what they stored with what a native build of the same C stores.
 //! Its last line is 'N passed, M failed'.
 
 mod cases;
@@ -8,9 +8,12 @@ mod machine;
 mod native;
 mod random;
 
+use avr_core::Rule;
 use std::process::ExitCode;
 
-type Case = (&'static str, fn() -> cases::Verdict);
+type Case = (&'static str, fn(Rule) -> cases::Verdict);
+
+const RULES: [(&str, Rule); 2] = [("source", Rule::Source), ("chip", Rule::Chip)];
 
 const CASES: [Case; 6] = [
     ("without interrupts", cases::without_interrupts),
@@ -23,15 +26,15 @@ const CASES: [Case; 6] = [
 
 fn main() -> ExitCode {
     let mut failed = 0;
-    for (name, case) in CASES {
-        match case() {
-            Ok(compared) => println!("{name}: {compared}"),
+    for ((rule_name, rule), (name, case)) in RULES.into_iter().flat_map(|rule| CASES.map(|case| (rule, case))) {
+        match case(rule) {
+            Ok(compared) => println!("{rule_name}, {name}: {compared}"),
             Err(difference) => {
                 failed += 1;
-                println!("failed: {name}: {difference}");
+                println!("failed: {rule_name}, {name}: {difference}");
             }
         }
     }
-    println!("{} passed, {failed} failed", CASES.len() - failed);
+    println!("{} passed, {failed} failed", RULES.len() * CASES.len() - failed);
     ExitCode::from(u8::from(failed > 0))
 }
