@@ -1,10 +1,12 @@
 -- Whatever the switches, an instruction does what it does with them as a rule sets them, changed as specs/Differences.antt says.
 -- Assumes nothing.
-use mathlib.Core.Path.{_≡_, refl, ap, _∙_}
+use mathlib.Core.Path.{_≡_, refl, sym, ap, _∙_}
 use mathlib.Core.Bool.{Bool, true, false, not, _||_}
 use mathlib.Core.List.{List}
 use Prim.Native.Nat.{ℕ, _+_, _%_, _-_, _<_}
-use lib.Dec.{eqb}
+use native.Mathlib.Omega.{arith}
+use lib.Dec.{eqb, leb}
+use borrow.Author.Tests.{leb-false}
 use Rattle.basis.specs.Pick.{pick}
 use Rattle.basis.specs.Bit.{up, down}
 use Rattle.bits.proofs.Booleans.{five-agree}
@@ -144,17 +146,24 @@ answer-by : (on : Bool) (a : Answer) (k : Core) (m : List ℕ) → says (pick on
 answer-by true a k m = refl
 answer-by false a k m = refl
 
-call-by : (on : Bool) (k : Core) (t : ℕ) (m : List ℕ)
-    → let called : ℕ → Out = λ t. STACK← (goes k t 3) (up (k .pc) 2) m in
-    ranOut (called (pick on (t % 65536) t)) ≡ pick on (ranOut (called (t % 65536))) (lands t (ranOut (called (t % 65536))))
-unfolding goes withPc withBusy withSp
-call-by true k t m = refl
-call-by false k t m = refl
+-- CALL and JMP, by what going to t does
+near : (t : ℕ) → leb 65536 t ≡ false → t % 65536 ≡ t
+near t e = let l = leb-false 65536 t e in omega arith
 
-jmp-by : (on : Bool) (k : Core) (t : ℕ) (m : List ℕ) → ran (goes k (pick on (t % 65536) t) 3) m ≡ pick on (ran (goes k (t % 65536) 3) m) (lands t (ran (goes k (t % 65536) 3) m))
+target-by : (to : ℕ → Says) → ((t u : ℕ) → to t ≡ lands t (to u)) → (on far : Bool) (t : ℕ) → leb 65536 t ≡ far
+    → to (pick on (t % 65536) t) ≡ pick far (pick on (to (t % 65536)) (lands t (to (t % 65536)))) (to (t % 65536))
+target-by to h true true t e = refl
+target-by to h true false t e = refl
+target-by to h false true t e = h t (t % 65536)
+target-by to h false false t e = ap to (sym (near t e))
+
+call-lands : (k : Core) (m : List ℕ) (t u : ℕ) → let called : ℕ → Says = λ t. ranOut (STACK← (goes k t 3) (up (k .pc) 2) m) in called t ≡ lands t (called u)
+unfolding goes withPc withBusy withSp
+call-lands k m t u = refl
+
+jump-lands : (k : Core) (m : List ℕ) (t u : ℕ) → ran (goes k t 3) m ≡ lands t (ran (goes k u 3) m)
 unfolding goes withPc withBusy
-jmp-by true k t m = refl
-jmp-by false k t m = refl
+jump-lands k m t u = refl
 
 -- ---- every instruction
 module _ (chip : Bool) (s : Switches) (two : Bool) (k : Core) (p m : List ℕ) (h : k .sreg < 256) (calm : k .inhibit ≡ false) where
@@ -173,7 +182,7 @@ module _ (chip : Bool) (s : Switches) (two : Bool) (k : Core) (p m : List ℕ) (
   instruction-changed BREAK = answer-by (s outside) Break (next k 1 1) m
   instruction-changed (BSET b) = sei-by (base chip afterSei) (s afterSei) (eqb b 7) (withSreg (next k 1 1) (bitTo (k .sreg) b true)) m (next-inhibit k ∙ calm)
   instruction-changed (BST d b) = refl
-  instruction-changed (CALL t) = call-by (s target) k t m
+  instruction-changed (CALL t) = target-by (λ t. ranOut (STACK← (goes k t 3) (up (k .pc) 2) m)) (call-lands k m) (s target) (leb 65536 t) t refl
   instruction-changed (CBI A b) = refl
   instruction-changed (COM d) = refl
   instruction-changed (CP d r) = refl
@@ -189,7 +198,7 @@ module _ (chip : Bool) (s : Switches) (two : Bool) (k : Core) (p m : List ℕ) (
   instruction-changed IJMP = refl
   instruction-changed (IN d A) = refl
   instruction-changed (INC d) = refl
-  instruction-changed (JMP t) = jmp-by (s target) k t m
+  instruction-changed (JMP t) = target-by (λ t. ran (goes k t 3) m) (jump-lands k m) (s target) (leb 65536 t) t refl
   instruction-changed (LDX d) = load-by (base chip loads) (s loads) k d X 0 m
   instruction-changed (LDXinc d) = defined-by (s pointers) (isIn d X) (load-inc-by (base chip loads) (s loads) k d X m)
   instruction-changed (LDXdec d) = defined-by (s pointers) (isIn d X) (load-dec-by (base chip loads) (s loads) k d X m)

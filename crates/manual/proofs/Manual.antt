@@ -14,7 +14,7 @@ use Rattle.cores.specs.State.{withInhibit}
 use Rattle.tick.specs.Tick.{tickOf}
 use Rattle.manual.specs.Switches.{Switch, adiwV, loads, stores, afterSei, unknown, outside, end, target, pointers, Switches, base, theManual, baseBut, Says}
 use Rattle.manual.specs.Tick.{told, opcodeAt, step, tickBy}
-use Rattle.manual.specs.Differences.{stepsItsOwn, lists, listedBy, listed, changes, asSet, changedBy, all, changed}
+use Rattle.manual.specs.Differences.{stepsItsOwn, goesFar, lists, listedBy, listed, changes, asSet, changedBy, all, changed}
 use Rattle.manual.specs.Statement.{executes, EqualsTheManual, EqualsBySwitches, Alone, AdiwAlone, LoadsAlone, StoresAlone, SeiAlone, UnknownAlone, OutsideAlone, TargetAlone, PointersAlone, withEnd, EqualsUnlessListed, remains, ChipEqualsTheManual}
 use Rattle.manual.proofs.Ticks.{tick-is}
 use Rattle.manual.proofs.End.{end-alone}
@@ -150,22 +150,21 @@ equals-unless-listed k p m o h pp mm d n =
     ∙ unless (executes t) (listedBy all (k .chip) i) (told t) (changed (k .chip) endOn j i (told t)) n (λ e. unlisted all (k .chip) j i (told t) e)
 
 -- ---- 6
--- u to j are the tests of the list, x that the pointer is its own
-regrouped : (u s w b c j x : Bool) → ((u || false) || ((s || (w || (b || false))) || ((c || (j || false)) || (x || false)))) ≡ ((u || (s || (w || (b || (c || (j || false)))))) || x)
-regrouped true s w b c j x = refl
-regrouped false true w b c j x = refl
-regrouped false false true b c j x = refl
-regrouped false false false true c j x = refl
-regrouped false false false false true j x = refl
-regrouped false false false false false true x = refl
-regrouped false false false false false false true = refl
-regrouped false false false false false false false = refl
+-- u, s, w and b are the tests of the list, f that it goes far, x that the pointer is its own
+regrouped : (u s w b f x : Bool) → ((u || false) || ((s || (w || (b || false))) || (f || (x || false)))) ≡ ((u || (s || (w || (b || false)))) || f || x)
+regrouped true s w b f x = refl
+regrouped false true w b f x = refl
+regrouped false false true b f x = refl
+regrouped false false false true f x = refl
+regrouped false false false false true x = refl
+regrouped false false false false false true = refl
+regrouped false false false false false false = refl
 
 abbrev is : ℕ → Instruction → Bool
 is n i = eqb (code i .0) n
 
 remain-listed : (i : Instruction) → listed true i ≡ remains i
-remain-listed i = regrouped (is 86 i) (is 71 i) (is 85 i) (is 10 i) (is 13 i) (is 29 i) (stepsItsOwn i)
+remain-listed i = regrouped (is 86 i) (is 71 i) (is 85 i) (is 10 i) (goesFar i) (stepsItsOwn i)
 
 pub chip-equals-the-manual : ChipEqualsTheManual
 chip-equals-the-manual k p m o c h pp mm d n =

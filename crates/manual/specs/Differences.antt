@@ -2,6 +2,7 @@
 use mathlib.Core.Bool.{Bool, true, false, not, _&&_, _||_}
 use mathlib.Core.List.{List, [], _∷_}
 use Prim.Native.Nat.{ℕ, _+_}
+use lib.Dec.{leb}
 use Rattle.basis.specs.Pick.{pick}
 use Rattle.instruction.specs.declared.Instruction.{Instruction}
 use Rattle.instruction.specs.declared.Instruction.the-variants.{ADIW, BREAK, CALL, JMP, LDXinc, LDXdec, LDYinc, LDYdec, LDZinc, LDZdec, LPMZinc, SLEEP, STXdec, STXinc, STYdec, STYinc, STZdec, STZinc, WDR, UNDEF}
@@ -25,6 +26,10 @@ stepsItsOwn i =
     (pick (oneOf (LDYinc 0 ∷ LDYdec 0 ∷ STYinc 0 ∷ STYdec 0 ∷ []) i) (isIn (field i) Y)
     (pick (oneOf (LDZinc 0 ∷ LDZdec 0 ∷ STZinc 0 ∷ STZdec 0 ∷ LPMZinc 0 ∷ []) i) (isIn (field i) Z) false))
 
+-- a call or a jump to a target of more than 16 bits
+abbrev pub goesFar : Instruction → Bool
+goesFar i = oneOf (CALL 0 ∷ JMP 0 ∷ []) i && leb 65536 (field i)
+
 -- switch w lists instruction i. The end at PC 65,535 is no instruction's
 abbrev pub lists : Switch → Instruction → Bool
 lists adiwV i = oneOf (ADIW 0 0 ∷ []) i
@@ -34,7 +39,7 @@ lists afterSei i = isSei i
 lists unknown i = oneOf (UNDEF ∷ []) i
 lists outside i = oneOf (SLEEP ∷ WDR ∷ BREAK ∷ []) i
 lists end i = false
-lists target i = oneOf (CALL 0 ∷ JMP 0 ∷ []) i
+lists target i = goesFar i
 lists pointers i = stepsItsOwn i
 
 -- a switch of l that the rule has on lists i

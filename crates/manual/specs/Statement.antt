@@ -6,7 +6,8 @@
 -- 3. So each of the eight, alone turned the other way than the rule has it, changes what it names at the instructions it lists, and nothing else.
 -- 4. The ninth, the end, turned off, changes the ticks that end, and these alone: they execute what stands at PC 65,535, or refuse it.
 -- 5. With every switch off, which is the manual itself, the tick is 01's unless it ends or executes an instruction that remains listed under the rule.
--- 6. The same of a core with rule chip, with the list written out: words that decode doesn't know, SLEEP, WDR, BREAK, CALL, JMP, and a load into or a store from a stepped pointer.
+-- 6. The same of a core with rule chip, with the list written out: words that decode doesn't know, SLEEP, WDR, BREAK, CALL and JMP beyond 65,535, and a load into
+--    or a store from a stepped pointer.
 -- Settings s, switch w, core k, program p, data m, offer o, tick t, instruction i.
 use mathlib.Core.Path.{_≡_}
 use mathlib.Core.Bool.{Bool, true, false, not, _&&_, _||_}
@@ -17,14 +18,14 @@ use Rattle.basis.specs.Pick.{pick}
 use Rattle.basis.specs.Bytes.{Bytes}
 use Rattle.instruction.specs.Code.{oneOf}
 use Rattle.instruction.specs.declared.Instruction.{Instruction}
-use Rattle.instruction.specs.declared.Instruction.the-variants.{BREAK, CALL, JMP, SLEEP, WDR, UNDEF}
+use Rattle.instruction.specs.declared.Instruction.the-variants.{BREAK, SLEEP, WDR, UNDEF}
 use Rattle.cores.specs.declared.Core.{Core}
 use Rattle.cores.specs.State.{Sound, withInhibit}
 use Rattle.tick.specs.declared.Offer.{Offer}
 use Rattle.tick.specs.Tick.{Tick, numberOf, tickOf}
 use Rattle.manual.specs.Switches.{Switch, adiwV, loads, stores, afterSei, unknown, outside, end, target, pointers, Switches, base, theManual, turned, baseBut}
 use Rattle.manual.specs.Tick.{told, opcodeAt, step, tickBy}
-use Rattle.manual.specs.Differences.{stepsItsOwn, lists, listed, changes, changed}
+use Rattle.manual.specs.Differences.{stepsItsOwn, goesFar, lists, listed, changes, changed}
 
 -- the tick executed an instruction: answers 18 to 22
 abbrev pub executes : Tick → Bool
@@ -79,7 +80,7 @@ UnknownAlone = Alone unknown
 abbrev pub OutsideAlone : Type 0
 OutsideAlone = Alone outside
 
--- CALL and JMP: PC is the whole target
+-- CALL and JMP with a target of more than 16 bits: PC is the whole target
 abbrev pub TargetAlone : Type 0
 TargetAlone = Alone target
 
@@ -107,7 +108,7 @@ EqualsUnlessListed =
 -- ---- 6
 -- what remains listed under chip, beside the end
 abbrev pub remains : Instruction → Bool
-remains i = oneOf (UNDEF ∷ SLEEP ∷ WDR ∷ BREAK ∷ CALL 0 ∷ JMP 0 ∷ []) i || stepsItsOwn i
+remains i = oneOf (UNDEF ∷ SLEEP ∷ WDR ∷ BREAK ∷ []) i || goesFar i || stepsItsOwn i
 
 abbrev pub ChipEqualsTheManual : Type 0
 ChipEqualsTheManual =
