@@ -12,13 +12,18 @@
 #define MANY 64
 
 static avr_t *opened(void) {
-    static avr_t *avr;
-    if (!avr) avr = avr_make_mcu_by_name(MCU);
-    if (avr && avr->state != cpu_Limbo) return avr;
+    avr_t *avr = avr_make_mcu_by_name(MCU);
     if (!avr || avr_init(avr) != 0) {
         printf("simavr has no " MCU "\n");
         exit(2);
     }
+    return avr;
+}
+
+/* The one core, opened where it is first asked for. */
+static avr_t *core(void) {
+    static avr_t *avr;
+    if (!avr) avr = opened();
     return avr;
 }
 
@@ -28,7 +33,7 @@ static void put_sreg(avr_t *avr, uint8_t sreg) {
 }
 
 void simavr_step(struct state *state, uint16_t word) {
-    avr_t *avr = opened();
+    avr_t *avr = core();
     avr->flash[0] = (uint8_t)word;
     avr->flash[1] = (uint8_t)(word >> 8);
     memcpy(avr->data, state->registers, 32);
@@ -46,7 +51,7 @@ void simavr_step(struct state *state, uint16_t word) {
 }
 
 static avr_t *ready(const uint16_t words[WORDS]) {
-    avr_t *avr = opened();
+    avr_t *avr = core();
     memset(avr->flash, 0, 1024);
     for (int i = 0; i < WORDS; i++)
         avr->flash[2 * i] = (uint8_t)words[i], avr->flash[2 * i + 1] = (uint8_t)(words[i] >> 8);
