@@ -1,7 +1,7 @@
 -- The rule of 02, W2 and W4, source or chip: no instruction and no tick changes it; which instructions ask for it; and the waits that it decides.
--- op is an instruction, k a core, p a program, m the bytes of data, o an offer, t a tick; on is true for chip and false for source.
+-- op is an instruction, k a core, j the core that an instruction leaves, p a program, m the bytes of data, o an offer, t a tick; on is true for chip and false for source.
 use mathlib.Core.Path.{_≡_}
-use mathlib.Core.Bool.{Bool, false, _||_}
+use mathlib.Core.Bool.{Bool, true, false, _||_}
 use mathlib.Core.List.{List, [], _∷_}
 use Prim.Native.Nat.{ℕ}
 use Rattle.instruction.specs.Code.{oneOf, isPointerLoad, isPointerStore, isSei}
@@ -12,7 +12,6 @@ use Rattle.rule.specs.Rule.{loadWaits, storeWaits}
 use Rattle.cores.specs.declared.Core.{Core}
 use Rattle.cores.specs.State.{withChip}
 use Rattle.cores.specs.Flow.{opAt}
-use Rattle.cores.specs.Transfer.{ldOf, stOf}
 use Rattle.execute.specs.Execute.{executed}
 use Rattle.tick.specs.declared.Offer.{Offer}
 use Rattle.tick.specs.Tick.{Tick, gives, tickOf}
@@ -37,8 +36,9 @@ abbrev pub RulesDifferWhereAsked : Type 0
 RulesDifferWhereAsked =
     (k : Core) (p m : List ℕ) (o : Offer) (on : Bool) → asksTheRule (opAt decodeOf p (k .pc)) ≡ false → tickOf (withChip k on) p m o ≡ under on (tickOf k p m o)
 
--- ---- a pointer load and a pointer store wait as the rule has it, whatever the address, SREG's and SP's too: register r, a pointer, a displacement q, stepped or not
+-- ---- a pointer load and a pointer store wait as the rule has it, in every form and whatever the address, SREG's and SP's too
 abbrev pub PointersWaitByTheRule : Type 0
 PointersWaitByTheRule =
-    (k : Core) (r pointer q : ℕ) (dec inc : Bool) (m : List ℕ)
-    → (ldOf k r pointer q dec inc m .busy ≡ loadWaits (k .chip)) × (stOf k r pointer q dec inc m .core .busy ≡ storeWaits (k .chip))
+    (decode : ℕ → ℕ → Instruction) (op : Instruction) (k : Core) (p m : List ℕ)
+    → let j = executed decode k op p m .core in
+    (isPointerLoad op ≡ true → j .busy ≡ loadWaits (k .chip)) × (isPointerStore op ≡ true → j .busy ≡ storeWaits (k .chip))
