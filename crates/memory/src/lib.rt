@@ -41,11 +41,14 @@ pub fn read_word(bytes: &[u8], address: usize) -> u16
     }
 }
 
-// The word at a PC.
+// The word at a PC; of one that is cut off by the end, its low byte. A whole word is looked for once, so that it is read at once.
 pub fn get_progmem(program: &[u8], pc: u32) -> u16
     ensures { λ r. ⌜ r ≡ programWordOf (now (program .entry)) pc ⌝ }
 {
-    read_word(program, pc as usize * 2)
+    if has_word(program, pc) {
+        return read_word(program, pc as usize * 2);
+    }
+    read(program, pc as usize * 2) as u16
 }
 
 // Whether the word at a PC is wholly in the program.
