@@ -4,13 +4,14 @@ use cores::pointer;
 use instruction::Instruction;
 ghost use mathlib.Core.Path.{_≡_};
 ghost use mathlib.Core.Bool.{Bool, true, false, Bool·beq};
-ghost use lib.Dec.{eqb};
+ghost use Prim.Native.Nat.{_+_};
+ghost use lib.Dec.{eqb, ltb};
 ghost use lib.ListN.{length};
-ghost use Rattle.basis.specs.Bit.{bit};
+ghost use Rattle.basis.specs.Bit.{one, bit};
 ghost use Rattle.instruction.specs.Decode.{decodeOf};
 ghost use Rattle.memory.specs.Memory.{hasOf};
 ghost use Rattle.cores.specs.State.{reg, word};
-ghost use Rattle.cores.specs.Flow.{dataBitIs};
+ghost use Rattle.cores.specs.Flow.{twoAt, dataBitIs};
 ghost use Rattle.cores.specs.Transfer.{reachOf};
 ghost use Rattle.execute.specs.Needs.{
   refusal,
@@ -133,15 +134,25 @@ fn pop_refusal(core: Core, data: &[u8]) -> u8
     )
 }
 
+// PC stays below 65,536 behind the word to be skipped, whose length is asked for only where it decides.
+fn skip_has_room(core: Core, program: &[u8]) -> bool
+    ensures { λ r. ⌜ r ≡ ltb (core .pc + one (twoAt decodeOf core (now (program .entry)))) 65535 ⌝ }
+{
+    if core.pc < 65534 {
+        return true;
+    }
+    let opcode = memory::get_progmem(program, core.pc as u32);
+    let prefetch = memory::get_progmem(program, core.pc as u32 + 1);
+    let two = Instruction::decode(opcode, prefetch).two_words();
+    core.pc as u32 + (two as u32) < 65535
+}
+
 // The word to be skipped, where the skip is taken; `there`: its own data byte.
 fn skip_refusal(core: Core, taken: bool, program: &[u8], there: bool) -> u8
     ensures { λ n. ⌜ n ≡ refusal (skipNeeds decodeOf core taken (now (program .entry)) there) ⌝ }
 {
     if taken {
-        let opcode = memory::get_progmem(program, core.pc as u32);
-        let prefetch = memory::get_progmem(program, core.pc as u32 + 1);
-        let two = Instruction::decode(opcode, prefetch).two_words();
-        let room = core.pc as u32 + (two as u32) < 65535;
+        let room = skip_has_room(core, program);
         lowest(memory::has_word(program, core.pc as u32), room, true, there)
     } else {
         lowest(true, true, true, there)

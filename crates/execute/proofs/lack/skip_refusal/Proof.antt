@@ -1,8 +1,6 @@
 -- `skip_refusal`: the word, the room and the byte, where the skip is taken; else the byte.
 -- Assumes nothing.
-use native.Mathlib.Omega.{arith}
 use borrow.Author.Needs.{needs}
-use Rattle.basis.proofs.Bits.{one-le}
 use Rattle.execute.proofs.lack.skip_refusal.Statement.{statement}
 use Rattle.execute.proofs.lack.skip_refusal.Tie as tie
 
@@ -10,19 +8,10 @@ pub skip-refusal-spec : {M : Type 1} → statement M
 skip-refusal-spec =
     tie.close
     (tie.spec
-    (λ c. search needs)
     (λ c κs. search needs)
     (λ c. search needs)
-    (λ c. search needs)
     (λ c κs. search needs)
     (λ c κs. search needs)
     (λ c κs. search needs)
-    (λ c. search needs)
-    (λ c. search needs)
-    (λ c. omega (arith, one-le (c .before .two-words .result)))
-    (λ c. search needs)
-    (λ c κs. search needs)
-    (λ c κs. search needs)
-    (λ c κs. search needs)
-    (λ c. rw (c .before .before .before .before .before .before .before .before .before .before .if1 .taken, c .lowest .ensures, c .before .has-word .ensures, c .before .before .before .before .two-words .ensures, c .before .before .before .before .before .decode .ensures, c .before .before .before .before .before .before .get-progmem2 .ensures, c .before .before .before .before .before .before .before .before .get-progmem .ensures))
+    (λ c. rw (c .before .before .before .before .if1 .taken, c .lowest .ensures, c .before .has-word .ensures, c .before .before .before .skip-has-room .ensures))
     (λ c. cc))
