@@ -3,6 +3,10 @@
 use Rattle.instruction.proofs.Instruction.decode.Met as decode
 use Rattle.cores.proofs.Core.fresh.Met as fresh
 use Rattle.cores.proofs.Core.set_chip.Met as set-chip
+use Rattle.tick.proofs.decide.Met as decide
+use Rattle.tick.proofs.carry_out.Met as carry-out
+use Rattle.tick.proofs.Plan.answer.Met as answer
+use Rattle.tick.proofs.foretell.Met as foretell
 use Rattle.tick.proofs.tick.Met as tick
 use Rattle.tick.proofs.tick_in_place.Met as tick-in-place
 use Rattle.run.proofs.run.Met as run
@@ -26,6 +30,10 @@ contracts =
       decode = decode.met;
       fresh = fresh.met;
       set-chip = set-chip.met;
+      decide = decide.met;
+      carry-out = carry-out.met;
+      answer = answer.met;
+      foretell = foretell.met;
       tick = tick.met;
       tick-in-place = tick-in-place.met;
       run = run.met;

@@ -3,6 +3,10 @@
 use Rattle.instruction.proofs.Instruction.decode.Statement as decode
 use Rattle.cores.proofs.Core.fresh.Statement as fresh
 use Rattle.cores.proofs.Core.set_chip.Statement as set-chip
+use Rattle.tick.proofs.decide.Statement as decide
+use Rattle.tick.proofs.carry_out.Statement as carry-out
+use Rattle.tick.proofs.Plan.answer.Statement as answer
+use Rattle.tick.proofs.foretell.Statement as foretell
 use Rattle.tick.proofs.tick.Statement as tick
 use Rattle.tick.proofs.tick_in_place.Statement as tick-in-place
 use Rattle.run.proofs.run.Statement as run
@@ -25,7 +29,14 @@ pub record Contracts : Type 2 where
   -- crates/cores/src/lib.rt
   pub fresh : {M : Type 1} → fresh.statement M
   pub set-chip : {M : Type 1} → set-chip.statement M
+  -- crates/tick/src/deciding.rt
+  pub decide : {M : Type 1} → decide.statement M
+  -- crates/tick/src/carrying.rt
+  pub carry-out : {M : Type 1} → carry-out.statement M
+  -- crates/tick/src/answering.rt
+  pub answer : {M : Type 1} → answer.statement M
   -- crates/tick/src/lib.rt
+  pub foretell : {M : Type 1} → foretell.statement M
   pub tick : {M : Type 1} → tick.statement M
   pub tick-in-place : {M : Type 1} → tick-in-place.statement M
   -- crates/run/src/lib.rt

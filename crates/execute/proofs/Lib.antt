@@ -1,2 +1,3 @@
--- `Rest`: the instructions of a last arm.
+-- `Rest`: the instructions of a last arm. `Answers`: what an instruction answers.
 pub mod Rest
+pub mod Answers

@@ -1,6 +1,6 @@
 -- What the last arm `_` of a match on an instruction has: the others, by their places in the enum. Each fact is one test computed over all instructions.
 -- Assumes nothing.
-use mathlib.Core.Path.{_≡_, refl}
+use mathlib.Core.Path.{_≡_}
 use mathlib.Core.Bool.{Bool, true, false, not, _||_}
 use mathlib.Core.List.{List, [], _∷_}
 use Prim.Native.Nat.{ℕ}
@@ -8,14 +8,14 @@ use lib.Dec.{T, eqb, eqb→eq}
 use denote.Enum.Declared.{tagOf}
 use types.Run.{OneOf}
 use Rattle.instruction.proofs.Instruction.{the-type}
-use Rattle.instruction.proofs.Tests.{each, one-of, others}
+use Rattle.instruction.proofs.Tests.{each, all-keys, one-of, others}
 use Rattle.instruction.specs.Decode.{decodeOf}
 use Rattle.instruction.specs.declared.Instruction.{Instruction}
 use Rattle.cores.specs.declared.Core.{Core}
 use Rattle.execute.specs.Needs.{refusal, needs}
-use Rattle.execute.specs.Execute.{executed}
-use Rattle.execute.specs.declared.Done.{Done}
-use Rattle.execute.specs.declared.Done.the-variants.{Ran, Sleep, Watchdog, Undefined, Break}
+use Rattle.execute.specs.Execute.{doneOf}
+use Rattle.execute.specs.declared.Done.the-variants.{Ran}
+use Rattle.execute.proofs.Answers.{sameDone, same-done}
 
 abbrev among : List ℕ → ℕ → Bool
 among [] n = false
@@ -30,30 +30,24 @@ left-over : (p : ℕ → Bool) (q : Instruction → Bool) → ((i : Instruction)
     → (i : Instruction) → T (not (p (tagOf the-type i))) → T (q i)
 left-over p q h i n = either-left (p (tagOf the-type i)) (q i) (h i) n
 
--- ---- BREAK, SLEEP, UNDEF and WDR are not simply run
+-- ---- what is none of SLEEP, WDR, UNDEF and BREAK runs
 abbrev told : ℕ → Bool
-told n = among (10 ∷ 71 ∷ 85 ∷ 86 ∷ []) n
+told n = among (71 ∷ 85 ∷ 86 ∷ 10 ∷ []) n
 
-abbrev isRan : Done → Bool
-isRan Ran = true
-isRan Sleep = false
-isRan Watchdog = false
-isRan Undefined = false
-isRan Break = false
+neither : (a b : Bool) → T (not a) → T (not b) → T (not (a || b))
+neither true b h g = h
+neither false b h g = g
 
-ran-is : (d : Done) → T (isRan d) → Ran ≡ d
-ran-is Ran t = refl
-ran-is Sleep t = absurd t
-ran-is Watchdog t = absurd t
-ran-is Undefined t = absurd t
-ran-is Break t = absurd t
+-- not at place n
+abbrev But : ℕ → Instruction → Type 0
+But n i = OneOf (others (λ k. eqb k n)) (tagOf the-type i)
 
-module _ (k : Core) (i : Instruction) (p m : List ℕ) where
-  pub rest-ran : OneOf (others told) (tagOf the-type i) → Ran ≡ executed decodeOf k i p m .done
-  rest-ran h =
-      ran-is (executed decodeOf k i p m .done)
-      (left-over told (λ i. isRan (executed decodeOf k i p m .done)) (each (λ i. told (tagOf the-type i) || isRan (executed decodeOf k i p m .done)) (λ a b. tt) tt) i
-      (one-of (λ n. not (told n)) (others told) (tagOf the-type i) h tt))
+pub rest-ran : (i : Instruction) → But 71 i → But 85 i → But 86 i → But 10 i → Ran ≡ doneOf i
+rest-ran i sleep wdr undef brk =
+    let t = tagOf the-type i in
+    let not-at : (n : ℕ) → But n i → T (all-keys (λ k. not (eqb k n)) (others (λ k. eqb k n))) → T (not (eqb t n)) = λ n h. one-of (λ k. not (eqb k n)) (others (λ k. eqb k n)) t h in
+    let none = neither (eqb t 71) _ (not-at 71 sleep tt) (neither (eqb t 85) _ (not-at 85 wdr tt) (neither (eqb t 86) _ (not-at 86 undef tt) (neither (eqb t 10) false (not-at 10 brk tt) tt))) in
+    same-done Ran (doneOf i) (left-over told (λ i. sameDone Ran (doneOf i)) (each (λ i. told (tagOf the-type i) || sameDone Ran (doneOf i)) (λ a b. tt) tt) i none)
 
 -- ---- the instructions that need something
 abbrev needy : ℕ → Bool

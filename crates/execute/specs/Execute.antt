@@ -1,32 +1,31 @@
 -- What each instruction does, of a core whose PC is behind its first word: the handler that 01 gives it, and the answer.
-use mathlib.Core.Path.{_≡_}
 use mathlib.Core.Bool.{true, false}
-use mathlib.Core.List.{List}
-use Prim.Native.Nat.{ℕ}
+use mathlib.Core.List.{List, [], _∷_}
+use Prim.Native.Nat.{ℕ, _+_}
+use lib.Dec.{eqb}
+use Rattle.basis.specs.Pick.{pick}
+use Rattle.instruction.specs.Code.{oneOf}
 use Rattle.instruction.specs.declared.Instruction.{Instruction}
 use Rattle.instruction.specs.declared.Instruction.the-variants.{ADC, ADD, ADIW, AND, ANDI, ASR, BCLR, BLD, BRBC, BRBS, BREAK, BSET, BST, CALL, CBI, COM, CP, CPC, CPI, CPSE, DEC, EOR, FMUL, FMULS, FMULSU, ICALL, IJMP, IN, INC, JMP, LDX, LDXinc, LDXdec, LDYinc, LDYdec, LDZinc, LDZdec, LDDY, LDDZ, LDI, LDS, LPM, LPMZ, LPMZinc, LSL, LSR, MOV, MOVW, MUL, MULS, MULSU, NEG, NOP, OR, ORI, OUT, POP, PUSH, RCALL, RET, RETI, RJMP, ROR, SBC, SBCI, SBI, SBIC, SBIS, SBIW, SBRC, SBRS, SLEEP, STX, STXdec, STXinc, STYdec, STYinc, STZdec, STZinc, STDY, STDZ, STS, SUB, SUBI, SWAP, WDR, UNDEF}
 use Rattle.memory.specs.Memory.{bitSetOf}
 use Rattle.cores.specs.declared.Core.{Core}
-use Rattle.cores.specs.State.{Out, out, reg, word, withReg, withWord}
+use Rattle.cores.specs.State.{Out, out, reg, word, withReg, withWord, withPc, withInhibit}
 use Rattle.cores.specs.Arithmetic.{adcOf, addOf, adiwOf, andOf, comOf, decOf, eorOf, fmulOf, fmulsOf, fmulsuOf, incOf, mulOf, mulsOf, mulsuOf, negOf, orOf, sbcOf, sbiwOf, subOf}
 use Rattle.cores.specs.Flow.{overSecond, brbxOf, callOf, cpOf, cpcOf, cpseOf, icallOf, ijmpOf, jmpOf, rcallOf, retOf, retiOf, rjmpOf, sbixOf, sbrxOf}
 use Rattle.cores.specs.Bits.{asrOf, bclrOf, bldOf, bsetOf, bstOf, lsrOf, rorOf, swapOf}
 use Rattle.cores.specs.Transfer.{setDataOf, inOf, ldOf, stOf, ldsOf, lpmOf, popOf, pushOf, stsOf}
-use Rattle.execute.specs.declared.Outcome.{Outcome}
 use Rattle.execute.specs.declared.Done.{Done}
 use Rattle.execute.specs.declared.Done.the-variants.{Ran, Sleep, Watchdog, Undefined, Break}
+
+-- 01, step 5: "add 1 to PC", with inhibit clear: the core that the instruction at PC is executed on. From 65,535, where no tick executes, PC goes to 0
+unfoldable pub behind : Core → Core
+behind k = withPc (withInhibit k false) (pick (eqb (k .pc) 65535) 0 (k .pc + 1))
 
 -- what an executed instruction gives: no refusal is among it
 pub record Executed : Type 0 where
   pub done : Done
   pub core : Core
   pub bytes : List ℕ
-
--- what the code hands back, and the lent data, are those
-pub record Executes (e : Executed) (r : Outcome) (m : List ℕ) : Type 0 where
-  pub done : r .done ≡ e .done
-  pub core : r .core ≡ e .core
-  pub bytes : m ≡ e .bytes
 
 -- its core and its bytes alone
 abbrev pub effectOf : Executed → Out
@@ -131,3 +130,11 @@ module _ (decode : ℕ → ℕ → Instruction) where
   executed k (SWAP d) p m = ran (swapOf k d) m
   executed k WDR p m = did Watchdog k m
   executed k UNDEF p m = did Undefined k m
+
+-- what it answers, whatever core, program and data are: "sleep, watchdog, undefined", "break", and ran for all others
+abbrev pub doneOf : Instruction → Done
+doneOf i =
+    pick (oneOf (SLEEP ∷ []) i) Sleep
+    (pick (oneOf (WDR ∷ []) i) Watchdog
+    (pick (oneOf (UNDEF ∷ []) i) Undefined
+    (pick (oneOf (BREAK ∷ []) i) Break Ran)))

@@ -1,43 +1,20 @@
 // What each instruction does: the arms of the Rust's `Core::tick`, in its order.
 use crate::Done;
-use crate::Outcome;
 use cores::Core;
 use cores::pointer;
 use instruction::Instruction;
 ghost use mathlib.Core.Path.{_≡_};
 ghost use Rattle.instruction.specs.Decode.{decodeOf};
 ghost use Rattle.cores.specs.State.{Leaves};
-ghost use Rattle.execute.specs.Execute.{Executes, executed, effectOf};
+ghost use Rattle.execute.specs.Execute.{behind, executed, effectOf, doneOf};
 
-pub fn execute(core: Core, op: Instruction, program: &[u8], data: &mut [u8]) -> Outcome
-    ensures { λ r. ⌜ Executes (executed decodeOf core op (now (program .entry)) (now («data» .entry))) r (now («data» .exit)) ⌝ }
+pub fn execute(core: Core, op: Instruction, program: &[u8], data: &mut [u8]) -> Core
+    ensures { λ k. ⌜ Leaves (effectOf (executed decodeOf (behind core) op (now (program .entry)) (now («data» .entry)))) k (now («data» .exit)) ⌝ }
 {
-    let next = effect(core, op, program, data);
-    match op {
-        Instruction::BREAK => Outcome {
-            done: Done::Break,
-            core: next,
-        },
-        Instruction::SLEEP => Outcome {
-            done: Done::Sleep,
-            core: next,
-        },
-        Instruction::WDR => Outcome {
-            done: Done::Watchdog,
-            core: next,
-        },
-        Instruction::UNDEF => Outcome {
-            done: Done::Undefined,
-            core: next,
-        },
-        _ => Outcome {
-            done: Done::Ran,
-            core: next,
-        },
-    }
+    effect(crate::behind(core), op, program, data)
 }
 
-// The core and the data after an instruction.
+// The core and the data after an instruction, from behind its first word.
 fn effect(core: Core, op: Instruction, program: &[u8], data: &mut [u8]) -> Core
     ensures { λ k. ⌜ Leaves (effectOf (executed decodeOf core op (now (program .entry)) (now («data» .entry)))) k (now («data» .exit)) ⌝ }
 {
@@ -135,5 +112,27 @@ fn effect(core: Core, op: Instruction, program: &[u8], data: &mut [u8]) -> Core
         Instruction::WDR => core,
         // Undefined
         Instruction::UNDEF => core,
+    }
+}
+
+// What it answers. One test after another, where a single match would be a jump table that the compiler leaves in a call of its own.
+pub fn done_by(op: Instruction) -> Done
+    ensures { λ d. ⌜ d ≡ doneOf op ⌝ }
+{
+    match op {
+        Instruction::SLEEP => return Done::Sleep,
+        _ => {}
+    }
+    match op {
+        Instruction::WDR => return Done::Watchdog,
+        _ => {}
+    }
+    match op {
+        Instruction::UNDEF => return Done::Undefined,
+        _ => {}
+    }
+    match op {
+        Instruction::BREAK => Done::Break,
+        _ => Done::Ran,
     }
 }

@@ -3,7 +3,7 @@ use cores::Core;
 use cores::pointer;
 use instruction::Instruction;
 ghost use mathlib.Core.Path.{_≡_};
-ghost use mathlib.Core.Bool.{Bool, true, false, Bool·beq};
+ghost use mathlib.Core.Bool.{true, false, Bool·beq};
 ghost use Prim.Native.Nat.{_+_};
 ghost use lib.Dec.{eqb, ltb};
 ghost use lib.ListN.{length};
@@ -13,6 +13,7 @@ ghost use Rattle.memory.specs.Memory.{hasOf};
 ghost use Rattle.cores.specs.State.{reg, word};
 ghost use Rattle.cores.specs.Flow.{twoAt, dataBitIs};
 ghost use Rattle.cores.specs.Transfer.{reachOf};
+ghost use Rattle.execute.specs.Execute.{behind};
 ghost use Rattle.execute.specs.Needs.{
   refusal,
   byte,
@@ -186,12 +187,12 @@ fn sbrx_refusal(core: Core, r: u8, b: u8, set: bool, program: &[u8]) -> u8
 }
 
 pub fn refusal(core: Core, op: Instruction, program: &[u8], data: &[u8]) -> u8
-    ensures { λ n. ⌜ n ≡ refusal (needs decodeOf core op (now (program .entry)) (now («data» .entry))) ⌝ }
+    ensures { λ n. ⌜ n ≡ refusal (needs decodeOf (behind core) op (now (program .entry)) (now («data» .entry))) ⌝ }
 {
     match op {
-        Instruction::CALL { .. } => call_refusal(core, data),
+        Instruction::CALL { .. } => call_refusal(crate::behind(core), data),
         Instruction::CBI { A, b: _ } => byte_refusal(A, data),
-        Instruction::CPSE { d, r } => cpse_refusal(core, d, r, program),
+        Instruction::CPSE { d, r } => cpse_refusal(crate::behind(core), d, r, program),
         Instruction::ICALL => push_refusal(core, data),
         Instruction::IN { d: _, A } => space_refusal(A as u16, data),
         Instruction::LDX { .. } => pointer_refusal(core, pointer::X, 0, false, data),
@@ -203,7 +204,7 @@ pub fn refusal(core: Core, op: Instruction, program: &[u8], data: &[u8]) -> u8
         Instruction::LDZdec { .. } => pointer_refusal(core, pointer::Z, 0, true, data),
         Instruction::LDDY { d: _, q } => pointer_refusal(core, pointer::Y, q, false, data),
         Instruction::LDDZ { d: _, q } => pointer_refusal(core, pointer::Z, q, false, data),
-        Instruction::LDS { d: _, k } => second_refusal(core, k, data),
+        Instruction::LDS { d: _, k } => second_refusal(crate::behind(core), k, data),
         Instruction::LPM => lpm_refusal(core, program),
         Instruction::LPMZ { .. } => lpm_refusal(core, program),
         Instruction::LPMZinc { .. } => lpm_refusal(core, program),
@@ -214,10 +215,10 @@ pub fn refusal(core: Core, op: Instruction, program: &[u8], data: &[u8]) -> u8
         Instruction::RET => pop_refusal(core, data),
         Instruction::RETI => pop_refusal(core, data),
         Instruction::SBI { A, b: _ } => byte_refusal(A, data),
-        Instruction::SBIC { A, b } => sbix_refusal(core, A, b, false, program, data),
-        Instruction::SBIS { A, b } => sbix_refusal(core, A, b, true, program, data),
-        Instruction::SBRC { r, b } => sbrx_refusal(core, r, b, false, program),
-        Instruction::SBRS { r, b } => sbrx_refusal(core, r, b, true, program),
+        Instruction::SBIC { A, b } => sbix_refusal(crate::behind(core), A, b, false, program, data),
+        Instruction::SBIS { A, b } => sbix_refusal(crate::behind(core), A, b, true, program, data),
+        Instruction::SBRC { r, b } => sbrx_refusal(crate::behind(core), r, b, false, program),
+        Instruction::SBRS { r, b } => sbrx_refusal(crate::behind(core), r, b, true, program),
         Instruction::STX { .. } => pointer_refusal(core, pointer::X, 0, false, data),
         Instruction::STXdec { .. } => pointer_refusal(core, pointer::X, 0, true, data),
         Instruction::STXinc { .. } => pointer_refusal(core, pointer::X, 0, false, data),
@@ -227,7 +228,7 @@ pub fn refusal(core: Core, op: Instruction, program: &[u8], data: &[u8]) -> u8
         Instruction::STZinc { .. } => pointer_refusal(core, pointer::Z, 0, false, data),
         Instruction::STDY { q, r: _ } => pointer_refusal(core, pointer::Y, q, false, data),
         Instruction::STDZ { q, r: _ } => pointer_refusal(core, pointer::Z, q, false, data),
-        Instruction::STS { k, r: _ } => second_refusal(core, k, data),
+        Instruction::STS { k, r: _ } => second_refusal(crate::behind(core), k, data),
         _ => NONE,
     }
 }

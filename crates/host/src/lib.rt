@@ -30,12 +30,10 @@ pub extern "C" fn avr_tick(snapshot: &mut [u8], program: &[u8], data: &mut [u8],
     if read.refusal != 0 {
         return read.refusal as u32;
     }
-    let core = read.core;
-    let ticked = tick::tick(core, program, data, offer_of(offer));
-    let answer = ticked.answer;
-    let next = ticked.core;
+    let plan = tick::decide(read.core, program, data, offer_of(offer));
+    let next = tick::carry_out(read.core, plan, program, data);
     snapshot::write(next, snapshot);
-    tick::number(answer) as u32
+    tick::number(plan.answer()) as u32
 }
 
 // A run: the same checks, then the run, its count into `ticks`. A call refused by a check leaves `ticks` as it was.

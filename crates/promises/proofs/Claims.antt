@@ -1,6 +1,7 @@
 -- What else is claimed holds.
 -- Assumes nothing.
 use Rattle.instruction.proofs.Laws.{fields-in-range, second-word-alone}
+use Rattle.tick.proofs.Foretold.{foretold}
 use Rattle.invariants.proofs.Ranges.{instructions-stay-in-range}
 use Rattle.invariants.proofs.Waits.{instructions-wait-at-most-3}
 use Rattle.invariants.proofs.Registers.{other-registers-kept, register-only-keeps-the-rest}
@@ -29,6 +30,7 @@ claims =
     record {
       fields = fields-in-range;
       second-word = second-word-alone;
+      foretold = foretold;
       instructions-in-range = instructions-stay-in-range;
       instructions-wait = instructions-wait-at-most-3;
       other-registers = other-registers-kept;

@@ -3,8 +3,6 @@
 use mathlib.Core.Path.{_≡_, refl, sym, _∙_}
 use Prim.Native.Nat.{ℕ}
 use Rattle.cores.specs.declared.Core.{Core}
-use Rattle.execute.specs.declared.Done.{Done}
-use Rattle.execute.specs.declared.Outcome.{Outcome}
 use Rattle.tick.specs.declared.Answer.{Answer}
 use Rattle.tick.specs.declared.Ticked.{Ticked}
 use Rattle.run.specs.declared.Ran.{Ran}
@@ -23,9 +21,6 @@ three e f g = cc (e, f, g)
 four : {A B C D : Type 0} {a a′ : A} {b b′ : B} {c c′ : C} {d d′ : D} → a ≡ a′ → b ≡ b′ → c ≡ c′ → d ≡ d′ → Path (A × B × C × D) (a, b, c, d) (a′, b′, c′, d′)
 four e f g h = cc (e, f, g, h)
 
-outcome : {a a′ : Done} {k k′ : Core} → a ≡ a′ → k ≡ k′ → Path Outcome (record { done = a; core = k }) (record { done = a′; core = k′ })
-outcome e f = cc (e, f)
-
 ticked : {a a′ : Answer} {k k′ : Core} → a ≡ a′ → k ≡ k′ → Path Ticked (record { answer = a; core = k }) (record { answer = a′; core = k′ })
 ticked e f = cc (e, f)
 
@@ -37,7 +32,6 @@ one-outcome =
     record {
       equation = λ d x y e f. equation e f;
       leaves = λ o x y e f. two (equation (e .core) (f .core)) (equation (e .bytes) (f .bytes));
-      executes = λ o x y e f. two (outcome (equation (e .done) (f .done)) (equation (e .core) (f .core))) (equation (e .bytes) (f .bytes));
       ticks = λ o x y e f. two (ticked (equation (e .answer) (f .answer)) (equation (e .core) (f .core))) (equation (e .bytes) (f .bytes));
       ticks-in-place = λ o x y e f. three (equation (e .answer) (f .answer)) (equation (e .core) (f .core)) (equation (e .bytes) (f .bytes));
       runs =

@@ -1,6 +1,7 @@
 -- WHAT ELSE IS CLAIMED: every statement that README's table 'Proved' has beside the three demands. A line names a statement; the comment above it names the file
 -- where that stands.
 use Rattle.instruction.specs.Fields.{FieldsInRange, SecondWordAlone}
+use Rattle.tick.specs.Plan.{TickIsTheTwoInTurn}
 use Rattle.invariants.specs.Instructions.{InstructionsStayInRange, InstructionsWaitAtMost3, OtherRegistersKept, RegisterOnlyKeepsTheRest, OnlyRetiAndSeiTouchTheFlags}
 use Rattle.invariants.specs.Ticks.{TicksAnswerTickNumbers}
 use Rattle.invariants.specs.Rule.{InstructionsKeepTheRule, TicksKeepTheRule, RulesDifferWhereAsked, PointersWaitByTheRule}
@@ -18,6 +19,8 @@ pub record Claims : Type 0 where
   -- crates/instruction/specs/Fields.antt: a decoded operand is in its field; only four instructions look at the second word
   pub fields : FieldsInRange
   pub second-word : SecondWordAlone
+  -- crates/tick/specs/Plan.antt: what is foretold is what the tick then gives, and carrying it out leaves the tick's core and data
+  pub foretold : TickIsTheTwoInTurn
   -- crates/invariants/specs/Instructions.antt: what every instruction keeps
   pub instructions-in-range : InstructionsStayInRange
   pub instructions-wait : InstructionsWaitAtMost3

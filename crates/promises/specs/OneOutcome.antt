@@ -1,11 +1,9 @@
--- 01: "Prove that two outcomes meeting one contract are the same." Every public function's contract is one of these eleven; docs/CONTRACTS.md says which is whose.
+-- 01: "Prove that two outcomes meeting one contract are the same." Every public function's contract is one of these ten; docs/CONTRACTS.md says which is whose.
 use mathlib.Core.Path.{_≡_}
 use mathlib.Core.List.{List}
 use Prim.Native.Nat.{ℕ}
 use Rattle.cores.specs.declared.Core.{Core}
 use Rattle.cores.specs.State.{Out, Leaves}
-use Rattle.execute.specs.declared.Outcome.{Outcome}
-use Rattle.execute.specs.Execute.{Executed, Executes}
 use Rattle.tick.specs.declared.Answer.{Answer}
 use Rattle.tick.specs.declared.Ticked.{Ticked}
 use Rattle.tick.specs.Tick.{Tick, Ticks, inPlace}
@@ -24,7 +22,6 @@ pub record OneOutcome : Type 1 where
   pub equation : {A : Type 0} (d : A) → One (λ (x : A). x ≡ d)
   -- a core, and the bytes of data
   pub leaves : (o : Out) → One (λ (x : Core × List ℕ). Leaves o (x .0) (x .1))
-  pub executes : (e : Executed) → One (λ (x : Outcome × List ℕ). Executes e (x .0) (x .1))
   -- answer, core and data, handed back or left in place
   pub ticks : (t : Tick) → One (λ (x : Ticked × List ℕ). Ticks t (x .0) (x .1))
   pub ticks-in-place : (t : Tick) → One (λ (x : Answer × Core × List ℕ). Ticks t (inPlace (x .0) (x .1)) (x .2))

@@ -21,13 +21,13 @@ pub fn run(core: Core, program: &[u8], data: &mut [u8], offer: Offer, budget: u3
     let mut last = core;
     let mut ticks: u32 = 0;
     while ticks < budget {
-        let ticked = tick::tick(last, program, data, offer);
-        let answer = ticked.answer;
+        let plan = tick::decide(last, program, data, offer);
+        let answer = plan.answer();
         let done = ticks + 1;
-        last = ticked.core;
         if tick::refuses(answer) {
             return ended(answer, ticks, last);
         }
+        last = tick::carry_out(last, plan, program, data);
         if tick::stops(answer) {
             return ended(answer, done, last);
         }

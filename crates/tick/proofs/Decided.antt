@@ -1,31 +1,23 @@
--- A step whose needs are decided first: granted, or denied with the lowest refusal; and the two tests that the code makes in another order.
+-- The tests that the first operation makes in another order than its definition.
 -- Assumes nothing.
-use mathlib.Core.Path.{_≡_, refl}
-use mathlib.Core.Bool.{Bool, true, false, not, _&&_, _||_}
+use mathlib.Core.Path.{_≡_, refl, sym, _∙_}
+use mathlib.Core.Bool.{Bool, true, false, not, _&&_}
 use mathlib.Core.List.{List}
-use Prim.Native.Nat.{ℕ, _+_}
-use borrow.Author.Tests.{ne-eqb}
+use Prim.Native.Nat.{ℕ, _+_, _*_}
+use native.Mathlib.Omega.{arith}
+use borrow.Author.Tests.{lt-ltb, ltb-true}
+use lib.ListN.{length}
 use Rattle.basis.specs.Pick.{pick}
+use Rattle.instruction.specs.Code.{twoWords}
 use Rattle.instruction.specs.Decode.{decodeOf}
+use Rattle.instruction.specs.declared.Instruction.{Instruction}
+use Rattle.memory.specs.Memory.{hasWordOf}
 use Rattle.cores.specs.Flow.{opAt}
 use Rattle.cores.specs.declared.Core.{Core}
-use Rattle.cores.specs.State.{withPc}
-use Rattle.execute.specs.Needs.{Needs, refusal, needs, fetched}
-use Rattle.execute.specs.Execute.{executed}
-use Rattle.tick.specs.Tick.{Tick, gives, decided, executedTick, stepped}
-use Rattle.tick.specs.declared.Answer.the-variants.{Refused}
-
-module _ (n : Needs) (k : Core) (m : List ℕ) (t : Tick) where
-  pub granted : 0 ≡ refusal n → decided n k m t ≡ t
-  granted e = rw (← e)
-
-  pub denied : (r : ℕ) → r ≡ refusal n → (r ≡ 0 → ⊥) → decided n k m t ≡ gives (Refused r) k m
-  denied r e h = rw (← e, ne-eqb r 0 h)
-
--- `!t | x`
-pub unless-not : (t x : Bool) → (not t || x) ≡ pick t x true
-unless-not true x = refl
-unless-not false x = refl
+use Rattle.execute.specs.Needs.{refusal, needs, fetched}
+use Rattle.execute.specs.Execute.{behind}
+use Rattle.tick.specs.Plan.{granted, stepPlan}
+use Rattle.tick.specs.declared.Plan.the-variants.{Refuse, Execute}
 
 -- `i & !s`, and then y
 pub if-and-not {ℓ} : {A : Type ℓ} (i s : Bool) (x y : A) → pick (i && not s) y x ≡ pick i (pick s x y) x
@@ -33,22 +25,32 @@ if-and-not true true x y = refl
 if-and-not true false x y = refl
 if-and-not false s x y = refl
 
--- ---- step 5, by what was found: the words, the needs
-module _ (k j : Core) (p m : List ℕ) where
-  abbrev pub needed : Needs
-  needed = needs decodeOf (withPc j (j .pc + 1)) (opAt decodeOf p (j .pc)) p m
+-- ---- the words of an instruction: where the second is there, so is the first
+either-way : (t : Bool) → true ≡ pick t true true
+either-way true = refl
+either-way false = refl
 
-  abbrev pub executedFrom : Tick
-  executedFrom = executedTick (executed decodeOf (withPc j (j .pc + 1)) (opAt decodeOf p (j .pc)) p m)
+pick-not : (t : Bool) → not t ≡ pick t false true
+pick-not true = refl
+pick-not false = refl
 
-  pub step-unfetched : fetched p (j .pc) (opAt decodeOf p (j .pc)) ≡ false → stepped decodeOf k j p m ≡ gives (Refused 1) k m
-  unfolding stepped
-  step-unfetched e = rw e
+module _ (p : List ℕ) (pc : ℕ) (i : Instruction) where
+  pub both-words : hasWordOf p (pc + 1) ≡ true → true ≡ fetched p pc i
+  unfolding hasWordOf
+  both-words h = rw (h, lt-ltb (pc * 2 + 1) (length p) (omega (arith, ltb-true ((pc + 1) * 2 + 1) (length p) h))) (either-way (twoWords i))
 
-  pub step-denied : fetched p (j .pc) (opAt decodeOf p (j .pc)) ≡ true → (r : ℕ) → r ≡ refusal needed → (r ≡ 0 → ⊥) → stepped decodeOf k j p m ≡ gives (Refused r) k m
-  unfolding stepped
-  step-denied e r f h = rw e (denied needed k m executedFrom r f h)
+  pub first-word : hasWordOf p (pc + 1) ≡ false → (hasWordOf p pc && not (twoWords i)) ≡ fetched p pc i
+  first-word h = rw (h, pick-not (twoWords i))
 
-  pub step-granted : fetched p (j .pc) (opAt decodeOf p (j .pc)) ≡ true → 0 ≡ refusal needed → stepped decodeOf k j p m ≡ executedFrom
-  unfolding stepped
-  step-granted e f = rw e (granted needed k m executedFrom f)
+-- ---- step 5, by whether the words were found
+module _ (k : Core) (p m : List ℕ) where
+  abbrev op : Instruction
+  op = opAt decodeOf p (k .pc)
+
+  pub step-unfetched : (t : Bool) → t ≡ fetched p (k .pc) op → t ≡ false → Refuse 1 ≡ stepPlan k p m
+  unfolding stepPlan
+  step-unfetched t e f = rw (sym e ∙ f)
+
+  pub step-fetched : (t : Bool) → t ≡ fetched p (k .pc) op → t ≡ true → granted (refusal (needs decodeOf (behind k) op p m)) (Execute op) ≡ stepPlan k p m
+  unfolding stepPlan
+  step-fetched t e f = rw (sym e ∙ f)

@@ -10,5 +10,5 @@ offer-of-spec =
     tie.close
     (tie.spec
     (λ c. search needs)
-    (λ c. rw (lt-ltb _ _ (c .if1 .taken)))
+    (λ c. rw (lt-ltb (c .before .args .offer) 65536 (c .if1 .taken)))
     (λ c. rw (le-ltb _ _ (c .if1 .left))))
