@@ -1,6 +1,6 @@
 /* The C interface of crates/host, as `rt staticlib host` builds it (x86-64 Linux).
  * A slice is a pointer and a length: that many bytes that may be read, and written where the pointer is not const. The slices of a call, and `ticks`,
- * `line` and `written`, must not overlap; nothing here can check that. The numbers that avr_tick and avr_run return are those of document 01's table:
+ * `line` and `written`, must not overlap; nothing here can check that. The numbers that avr_tick, avr_foretell and avr_run return are those of document 01's table:
  * 1 to 5, 7 to 10 refused; 16 waited, 17 entered, 18 ran, 19 sleep, 20 watchdog, 21 undefined, 22 break, 23 end, 24 budget.
  * Those of avr_hex_read and avr_hex_write are document 02's: 0 where the call did what it says, or refused with
  *   50  a character that does not belong in the line
@@ -38,6 +38,10 @@ extern "C" {
 /* One tick of the core in `snapshot`. A refused call changes no byte. */
 uint32_t avr_tick(uint8_t *snapshot, size_t snapshot_len, const uint8_t *program, size_t program_len, uint8_t *data, size_t data_len,
                   uint32_t offer);
+
+/* What avr_tick would return for the same: its number, a refusal too. Everything is only read, so a host may ask as often as it likes, under one offer and another. */
+uint32_t avr_foretell(const uint8_t *snapshot, size_t snapshot_len, const uint8_t *program, size_t program_len, const uint8_t *data, size_t data_len,
+                      uint32_t offer);
 
 /* Up to `budget` ticks under one held offer; `*ticks` gets the number done. A call refused by a check (7 to 10) leaves `*ticks` as it was. */
 uint32_t avr_run(uint8_t *snapshot, size_t snapshot_len, const uint8_t *program, size_t program_len, uint8_t *data, size_t data_len,

@@ -46,6 +46,10 @@ says_both_rules() { # COMMAND...: prints ADIW's SREG and the sample taken behind
     [ "$("$@")" = "$(printf 'source: SREG 0C, sample 05\nchip: SREG 14, sample 2A')" ]
 }
 
+says_the_foretold() { # COMMAND...: prints what each next tick would answer, with no offer and with one
+    [ "$("$@")" = "$(printf 'word %s: %s, with an offer %s\n' 0 18 18 1 18 17 2 18 17 3 16 16 3 22 17)" ]
+}
+
 says_what_to_run() { # host/rust, with no archive, names the command that writes it
     said=$(AVR_CORE_LIB=$work/nowhere "$cargo" build --quiet --offline --release $target --manifest-path host/rust/Cargo.toml --target-dir target/cargo 2>&1)
     [ $? != 0 ] && echo "$said" | grep -q 'run `rt staticlib host`'
@@ -91,6 +95,7 @@ if can_link host/rust "$cargo" "$cc"; then
     with_cargo host/rust build --examples
     try_first "$built/examples/first"
     quietly "$built/examples/rules" says_both_rules $emulator "$built/examples/rules"
+    quietly "$built/examples/foretell" says_the_foretold $emulator "$built/examples/foretell"
     runs_nothing 'refused-57' $emulator "$built/examples/to_hex" <"$work/bytes"
     note $? 'to_hex on too long a program'
 fi

@@ -1,4 +1,4 @@
-/* Runs document 01's example through the C interface, writes it as a HEX file and reads that back, and runs line 2 of 01's bench sheet and a sampling routine under both rules;
+/* Runs document 01's example through the C interface, each tick foretold, writes it as a HEX file and reads that back, and runs line 2 of 01's bench sheet and a sampling routine under both rules;
  * fails where an answer is not the one that the documents name. */
 #include "avr_core.h"
 #include <stdio.h>
@@ -12,12 +12,26 @@ static int ticks_and_runs(void) {
     uint8_t snapshot[AVR_SNAPSHOT_BYTES] = {0}, again[AVR_SNAPSHOT_BYTES] = {0};
     uint32_t ticks = 0;
     for (int i = 0; i < 4; i++) {
+        uint32_t foretold = avr_foretell(snapshot, sizeof snapshot, program, sizeof program, data, sizeof data, AVR_NO_OFFER);
         uint32_t answer = avr_tick(snapshot, sizeof snapshot, program, sizeof program, data, sizeof data, AVR_NO_OFFER);
         printf("%u\n", (unsigned)answer);
-        if (answer != answers[i]) return 0;
+        if (answer != answers[i] || foretold != answer) return 0;
     }
     if (avr_run(again, sizeof again, program, sizeof program, data, sizeof data, AVR_NO_OFFER, 10, &ticks) != 22 || ticks != 4) return 0;
     return snapshot[16] == 5 && again[16] == 5;
+}
+
+/* A core with I set, asked with no interrupt offered and with one, and asked what is refused: without a program, and by each check. */
+static int foretells(void) {
+    uint8_t snapshot[AVR_SNAPSHOT_BYTES] = {[32] = 0x80, [36] = 15}, before[AVR_SNAPSHOT_BYTES], data[16] = {0};
+    memcpy(before, snapshot, sizeof before);
+    if (avr_foretell(snapshot, sizeof snapshot, program, sizeof program, data, sizeof data, AVR_NO_OFFER) != 18) return 0;
+    if (avr_foretell(snapshot, sizeof snapshot, program, sizeof program, data, sizeof data, 2) != 17) return 0;
+    if (avr_foretell(snapshot, sizeof snapshot, program, sizeof program, data, 15, 2) != 4) return 0;
+    if (avr_foretell(snapshot, sizeof snapshot, program, 1, data, sizeof data, AVR_NO_OFFER) != 1) return 0;
+    if (avr_foretell(snapshot, 37, program, sizeof program, data, sizeof data, AVR_NO_OFFER) != 7) return 0;
+    if (avr_foretell(snapshot, 37, program, sizeof program, data, sizeof data, AVR_NO_OFFER + 1) != 10) return 0;
+    return memcmp(before, snapshot, sizeof before) == 0;
 }
 
 static int writes_and_reads(void) {
@@ -63,5 +77,5 @@ static int takes(uint8_t rule, uint8_t sample) {
 static int is_safe_behind_sei(void) { return takes(0, 0x05) && takes(AVR_RULE_CHIP, 0x2A); }
 
 int main(void) {
-    return ticks_and_runs() && writes_and_reads() && goes_by_the_rule() && is_safe_behind_sei() ? 0 : 1;
+    return ticks_and_runs() && foretells() && writes_and_reads() && goes_by_the_rule() && is_safe_behind_sei() ? 0 : 1;
 }

@@ -13,6 +13,7 @@ use Rattle.run.proofs.run.Met as run
 use Rattle.snapshot.proofs.write.Met as write
 use Rattle.snapshot.proofs.read.Met as read
 use Rattle.host.proofs.avr_tick.Met as avr-tick
+use Rattle.host.proofs.avr_foretell.Met as avr-foretell
 use Rattle.host.proofs.avr_run.Met as avr-run
 use Rattle.tracing.proofs.trace.Met as trace
 use Rattle.hex.proofs.check.check.Met as hex-check
@@ -40,6 +41,7 @@ contracts =
       write = write.met;
       read = read.met;
       avr-tick = avr-tick.met;
+      avr-foretell = avr-foretell.met;
       avr-run = avr-run.met;
       trace = trace.met;
       hex-check = hex-check.met;

@@ -13,6 +13,7 @@ use Rattle.run.proofs.run.Statement as run
 use Rattle.snapshot.proofs.write.Statement as write
 use Rattle.snapshot.proofs.read.Statement as read
 use Rattle.host.proofs.avr_tick.Statement as avr-tick
+use Rattle.host.proofs.avr_foretell.Statement as avr-foretell
 use Rattle.host.proofs.avr_run.Statement as avr-run
 use Rattle.tracing.proofs.trace.Statement as trace
 use Rattle.hex.proofs.check.check.Statement as hex-check
@@ -46,6 +47,7 @@ pub record Contracts : Type 2 where
   pub read : {M : Type 1} → read.statement M
   -- crates/host/src/lib.rt
   pub avr-tick : {M : Type 1} → avr-tick.statement M
+  pub avr-foretell : {M : Type 1} → avr-foretell.statement M
   pub avr-run : {M : Type 1} → avr-run.statement M
   -- crates/tracing/src/lib.rt
   pub trace : {M : Type 1} → trace.statement M

@@ -36,6 +36,21 @@ pub extern "C" fn avr_tick(snapshot: &mut [u8], program: &[u8], data: &mut [u8],
     tick::number(plan.answer()) as u32
 }
 
+// What `avr_tick` would return, by the same checks. Every slice is only read.
+#[no_mangle]
+pub extern "C" fn avr_foretell(snapshot: &[u8], program: &[u8], data: &[u8], offer: u32) -> u32
+    ensures { λ n. ⌜ n ≡ avrTickOf (now (snapshot .entry)) (now (program .entry)) (now («data» .entry)) offer .number ⌝ }
+{
+    if offer > 65536 {
+        return 10;
+    }
+    let read = snapshot::read(snapshot);
+    if read.refusal != 0 {
+        return read.refusal as u32;
+    }
+    tick::number(tick::foretell(read.core, program, data, offer_of(offer))) as u32
+}
+
 // A run: the same checks, then the run, its count into `ticks`. A call refused by a check leaves `ticks` as it was.
 #[no_mangle]
 pub extern "C" fn avr_run(

@@ -20,6 +20,15 @@ extern "C" {
         data_len: usize,
         offer: u32,
     ) -> u32;
+    fn avr_foretell(
+        snapshot: *const u8,
+        snapshot_len: usize,
+        program: *const u8,
+        program_len: usize,
+        data: *const u8,
+        data_len: usize,
+        offer: u32,
+    ) -> u32;
     fn avr_run(
         snapshot: *mut u8,
         snapshot_len: usize,
@@ -39,6 +48,12 @@ extern "C" {
 pub fn tick(snapshot: &mut [u8], program: &[u8], data: &mut [u8], offer: u32) -> u32 {
     // The three slices are disjoint, as Rust's borrows are, and live through the call.
     unsafe { avr_tick(snapshot.as_mut_ptr(), snapshot.len(), program.as_ptr(), program.len(), data.as_mut_ptr(), data.len(), offer) }
+}
+
+/// The number that `tick` would give for the same, a refusal too. Nothing is changed, so it may be asked under one offer and another.
+pub fn foretell(snapshot: &[u8], program: &[u8], data: &[u8], offer: u32) -> u32 {
+    // The three slices live through the call, which only reads them.
+    unsafe { avr_foretell(snapshot.as_ptr(), snapshot.len(), program.as_ptr(), program.len(), data.as_ptr(), data.len(), offer) }
 }
 
 /// Up to `budget` ticks under one held offer: the answer's number, and the number of ticks done.
@@ -104,6 +119,27 @@ mod tests {
         assert_eq!(answers, [18, 18, 16, 22]);
         assert_eq!(snapshot[16], 0x05);
         assert_eq!(&snapshot[33..35], &[0, 3]);
+    }
+
+    #[test]
+    fn foretells_each_tick_of_the_example() {
+        let (mut snapshot, mut data) = (fresh(), [0; 64]);
+        for _ in 0..4 {
+            let foretold = foretell(&snapshot, &PROGRAM, &data, NO_OFFER);
+            assert_eq!(foretold, tick(&mut snapshot, &PROGRAM, &mut data, NO_OFFER));
+        }
+    }
+
+    #[test]
+    fn foretells_refusals_in_their_order() {
+        let (mut wrong, data) = (fresh(), [0; 4]);
+        assert_eq!(foretell(&wrong, &[], &data, NO_OFFER), 1);
+        wrong[37] = 0x03;
+        assert_eq!(foretell(&wrong, &PROGRAM, &data, NO_OFFER), 9);
+        wrong[37] = 0xA3;
+        assert_eq!(foretell(&wrong, &PROGRAM, &data, NO_OFFER), 8);
+        assert_eq!(foretell(&wrong[..37], &PROGRAM, &data, NO_OFFER), 7);
+        assert_eq!(foretell(&wrong[..37], &PROGRAM, &data, 65_537), 10);
     }
 
     #[test]
