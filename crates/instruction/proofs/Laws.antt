@@ -11,25 +11,15 @@ use Rattle.basis.specs.Pick.{pick}
 use Rattle.instruction.specs.Decode.{Cases, look, under, decodeOf, ranges, nopToAddOf, nopToAdd, mulsuToFmulsuOf, mulsuToFmulsu, cpseToAdcOf, cpseToAdc, andToMovOf, andToMov, immediateOf, immediate, displacedOf, displaced, loadOf, load, storeOf, store, oneRegisterOf, oneRegister, controlOf, control, controlRest, indirectOf, indirect, wordImmediateOf, wordImmediate, portBitOf, portBit, portOf, port, relativeOf, relative, branchOrBitOf, branchOrBit, registerBitOf, registerBit}
 use Rattle.instruction.specs.Fields.{InFields, FieldsInRange, withSecond, SecondWordAlone}
 use Rattle.instruction.specs.declared.Instruction.{Instruction}
-
--- ---- what holds of every case of a table holds of what is found in it
-abbrev All : Cases → Type 0
-All [] = Unit {0}
-All (p ∷ l) = InFields (p .1) × All l
-
-either : (t : Bool) (i j : Instruction) → InFields i → InFields j → InFields (pick t i j)
-either true i j a b = a
-either false i j a b = b
-
-looked : (k : ℕ) (l : Cases) → All l → InFields (look k l)
-looked k [] a = tt
-looked k (p ∷ l) a = either (eqb k (p .0)) (p .1) (look k l) (a .0) (looked k l (a .1))
-
-ranged : (k : ℕ) (l : Cases) → All l → InFields (under k l)
-ranged k [] a = tt
-ranged k (p ∷ l) a = either (ltb k (p .0)) (p .1) (under k l) (a .0) (ranged k l (a .1))
+use Rattle.instruction.proofs.Cases.{All, all-looked, all-ranged}
 
 -- ---- FieldsInRange, table by table
+looked : (k : ℕ) (l : Cases) → All InFields l → InFields (look k l)
+looked = all-looked InFields tt
+
+ranged : (k : ℕ) (l : Cases) → All InFields l → InFields (under k l)
+ranged = all-ranged InFields tt
+
 nop-to-add-in : (w : ℕ) → InFields (nopToAddOf w)
 unfolding nopToAddOf mulsuToFmulsuOf
 nop-to-add-in w =

@@ -34,6 +34,9 @@ d4 w = w / 16 % 16
 abbrev pub d3 : ℕ → ℕ
 d3 w = w / 16 % 8
 
+abbrev pub d2 : ℕ → ℕ
+d2 w = w / 16 % 4
+
 abbrev pub r5 : ℕ → ℕ
 r5 w = w / 512 % 2 * 16 + w % 16
 
@@ -60,6 +63,10 @@ A5 w = w / 8 % 32
 
 abbrev pub b3 : ℕ → ℕ
 b3 w = w % 8
+
+-- of BSET and BCLR; the s of BRBS and BRBC is the lowest three bits
+abbrev pub s3 : ℕ → ℕ
+s3 w = w / 16 % 8
 
 -- the target of CALL and JMP: six bits of the word, then the second word
 abbrev pub k22 : ℕ → ℕ → ℕ
@@ -205,8 +212,8 @@ controlRest =
 
 abbrev pub control : ℕ → Cases
 control w =
-    (8, BSET (w / 16 % 8)) ∷  -- 1001_0100_0sss_1000
-    (16, BCLR (w / 16 % 8)) ∷  -- 1001_0100_1sss_1000
+    (8, BSET (s3 w)) ∷  -- 1001_0100_0sss_1000
+    (16, BCLR (s3 w)) ∷  -- 1001_0100_1sss_1000
     (32, look (w / 16 % 32) controlRest) ∷
     []
 
@@ -249,7 +256,7 @@ oneRegisterOf w s = look (w % 16) (oneRegister w s)
 -- ---- 0x9600 to 0x97FF, by bit 8
 abbrev pub wordImmediate : ℕ → Cases
 wordImmediate w =
-    let d = w / 16 % 4 * 2 + 24 in
+    let d = d2 w * 2 + 24 in
     (0, ADIW d (K6 w)) ∷  -- 1001_0110_KKdd_KKKK
     (1, SBIW d (K6 w)) ∷  -- 1001_0111_KKdd_KKKK
     []
