@@ -5,7 +5,7 @@ use mathlib.Core.Bool.{Bool, true, false}
 use Prim.Native.Nat.{zero, suc}
 use native.Mathlib.Nat.{not-suc-le-zero, le-of-suc-le-suc}
 use Rattle.tick.specs.Tick.{Tick, refuses, stops, tickOf}
-use Rattle.run.specs.Run.{Run, after, runOf, SameUnderLargerBudget}
+use Rattle.run.specs.Run.{Run, after, ran, runOf, SameUnderLargerBudget}
 use Rattle.run.proofs.Unroll.{step}
 
 -- two rests that agree unless the first is out of budget give runs that agree unless the first is
@@ -15,7 +15,7 @@ lifted false true t x y h n = refl
 lifted false false t x y h n = ap (after 1) (h n)
 
 pub same-under-larger-budget : SameUnderLargerBudget
-unfolding runOf
+unfolding ran
 same-under-larger-budget zero larger h k p m o n = absurd (n refl)
 same-under-larger-budget (suc b) zero h k p m o n = absurd (not-suc-le-zero h)
 same-under-larger-budget (suc b) (suc l) h k p m o n =

@@ -10,7 +10,7 @@ use Rattle.cores.specs.declared.Core.{Core}
 use Rattle.tick.specs.declared.Offer.{Offer}
 use Rattle.tick.specs.Tick.{Tick, refuses, stops, tickOf}
 use Rattle.tick.proofs.Steps.{refused-keeps}
-use Rattle.run.specs.Run.{Run, after, runOf, afterTicks, Spent, RefusedNext, StoppedLast, RunsAreTicks}
+use Rattle.run.specs.Run.{Run, after, ran, runOf, afterTicks, Spent, RefusedNext, StoppedLast, RunsAreTicks}
 use Rattle.run.proofs.Unroll.{step}
 
 -- a first tick, and the rest of a run that is ticks one after another
@@ -61,7 +61,7 @@ module _ (k : Core) (p m : List ℕ) (o : Offer) where
   ended-by false false x b e f i = later x b e f i
 
 pub runs-are-ticks : RunsAreTicks
-unfolding runOf
+unfolding ran
 runs-are-ticks zero k p m o = (refl, inl (record { answer = refl; count = refl; before = refl }))
 runs-are-ticks (suc b) k p m o =
     let t = tickOf k p m o in

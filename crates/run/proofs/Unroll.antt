@@ -9,7 +9,7 @@ use native.Mathlib.Omega.{arith}
 use Rattle.cores.specs.declared.Core.{Core}
 use Rattle.tick.specs.Tick.{Tick, refuses, stops, tickOf}
 use Rattle.tick.specs.declared.Offer.{Offer}
-use Rattle.run.specs.Run.{Run, ended, after, runOf}
+use Rattle.run.specs.Run.{Run, ended, after, ran, runOf}
 
 -- what a tick makes of the rest of its run
 abbrev pub step : Bool → Bool → Tick → Run → Run
@@ -17,7 +17,7 @@ step r s t x = elim r [ true ↦ ended 0 t | false ↦ elim s [ true ↦ ended 1
 
 pub once : (b : ℕ) (k : Core) (p m : List ℕ) (o : Offer)
     → runOf (suc b) k p m o ≡ (let t = tickOf k p m o in step (refuses (t .answer)) (stops (t .answer)) t (runOf b (t .core) p (t .bytes) o))
-unfolding runOf
+unfolding ran
 once b k p m o = refl
 
 less-one : (b n : ℕ) → n < b → b - n ≡ suc (b - (n + 1))
@@ -29,7 +29,7 @@ begun b k p m o = rw (sub-zero, zero-add)
 
 module _ (b n : ℕ) (k : Core) (p m : List ℕ) (o : Offer) where
   pub unroll-spent : b ≤ n → after n (runOf (b - n) k p m o) ≡ record { answer = 24; count = n; core = k; bytes = m }
-  unfolding runOf
+  unfolding ran
   unroll-spent h = let z : b - n ≡ 0 = omega arith in rw (z, add-zero)
 
   module _ (h : n < b) where

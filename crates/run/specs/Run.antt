@@ -6,8 +6,10 @@ use mathlib.Core.Logic.{_⊎_}
 use mathlib.Core.Bool.{Bool, true, false, not, _&&_}
 use mathlib.Core.List.{List}
 use Prim.Native.Nat.{ℕ, zero, suc, _+_, _≤_, _<_}
+use Rattle.instruction.specs.Decode.{decodeOf}
+use Rattle.instruction.specs.declared.Instruction.{Instruction}
 use Rattle.cores.specs.declared.Core.{Core}
-use Rattle.tick.specs.Tick.{Tick, numberOf, refuses, stops, tickOf}
+use Rattle.tick.specs.Tick.{Tick, numberOf, refuses, stops, ticked, tickOf}
 use Rattle.tick.specs.declared.Offer.{Offer}
 use Rattle.run.specs.declared.Ran as code
 
@@ -38,14 +40,19 @@ abbrev pub after : ℕ → Run → Run
 after ticks r = record { answer = r .answer; count = ticks + r .count; core = r .core; bytes = r .bytes }
 
 -- "Budget 0 answers 24 and reports 0, for every core." Otherwise a tick, and the rest of the run with one less
-unfoldable pub runOf : ℕ → Core → List ℕ → List ℕ → Offer → Run
-runOf zero k p m o = spent k m
-runOf (suc budget) k p m o =
-    let t = tickOf k p m o in
-    elim (refuses (t .answer)) [
-      | true ↦ ended 0 t
-      | false ↦ elim (stops (t .answer)) [ true ↦ ended 1 t | false ↦ after 1 (runOf budget (t .core) p (t .bytes) o) ]
-    ]
+module _ (decode : ℕ → ℕ → Instruction) where
+  unfoldable pub ran : ℕ → Core → List ℕ → List ℕ → Offer → Run
+  ran zero k p m o = spent k m
+  ran (suc budget) k p m o =
+      let t = ticked decode k p m o in
+      elim (refuses (t .answer)) [
+        | true ↦ ended 0 t
+        | false ↦ elim (stops (t .answer)) [ true ↦ ended 1 t | false ↦ after 1 (ran budget (t .core) p (t .bytes) o) ]
+      ]
+
+-- the run, by 01's decode
+abbrev pub runOf : ℕ → Core → List ℕ → List ℕ → Offer → Run
+runOf budget k p m o = ran decodeOf budget k p m o
 
 -- ---- the theorem, proved in proofs/Larger.antt
 -- "A run that answered anything but 24 answers the same under any larger budget": with the same count, core and data

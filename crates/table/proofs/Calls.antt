@@ -13,7 +13,7 @@ use Rattle.cores.specs.declared.Core.{Core}
 use Rattle.cores.specs.State.{readRegisterOf, setRegisterOf}
 use Rattle.tick.specs.declared.Offer.{Offer}
 use Rattle.tick.specs.Tick.{Tick, numberOf, refuses, stops, tickOf}
-use Rattle.run.specs.Run.{Run, runOf, goesOn}
+use Rattle.run.specs.Run.{Run, ran, runOf, goesOn}
 use Rattle.run.proofs.Unroll.{step}
 use Rattle.snapshot.specs.Snapshot.{writeOf, readOf}
 use Rattle.invariants.proofs.Ticks.{ticks-answer-tick-numbers}
@@ -62,7 +62,7 @@ below-24 : (k : Core) (p m : List ℕ) (o : Offer) → numberOf (tickOf k p m o 
 below-24 k p m o = elim (ticks-answer-tick-numbers k p m o) [ inl h ↦ omega arith | inr h ↦ omega arith ]
 
 pub runs-by-the-table : RunsByTheTable
-unfolding runOf
+unfolding ran
 runs-by-the-table zero k p m o = ((λ e. refl, λ e. refl), λ e. refl)
 runs-by-the-table (suc b) k p m o =
     let t = tickOf k p m o in

@@ -17,7 +17,7 @@ use Rattle.tick.specs.declared.Answer.{Answer}
 use Rattle.tick.specs.declared.Answer.the-variants.{Refused, Waited, Entered, Ran, Sleep, Watchdog, Undefined, Break, End}
 use Rattle.tick.specs.Tick.{Tick, numberOf, refuses, stops, tickOf}
 use Rattle.tick.proofs.Steps.{refused-keeps}
-use Rattle.run.specs.Run.{Run, runOf, goesOn}
+use Rattle.run.specs.Run.{Run, ran, runOf, goesOn}
 use Rattle.run.proofs.Unroll.{step}
 use Rattle.snapshot.specs.declared.SnapshotRead.{SnapshotRead}
 use Rattle.snapshot.specs.Snapshot.{bytesOf, coreOf, writeOf, readOf}
@@ -122,7 +122,7 @@ refused-tick-calls-change-nothing s p m offer h =
 
 -- a run's number: 24, or a tick's
 run-number : (budget : ℕ) (k : Core) (p m : List ℕ) (o : Offer) → (runOf budget k p m o .answer ≡ 24) ⊎ TickNumber (runOf budget k p m o .answer)
-unfolding runOf
+unfolding ran
 run-number zero k p m o = inl refl
 run-number (suc b) k p m o =
     let t = tickOf k p m o in
@@ -139,16 +139,16 @@ numbers : (a n : ℕ) → (a ≡ n → ⊥) → (a ≡ n) ↔ (false ≡ true)
 numbers a n h = (λ e. absurd (h e), λ e. clash (sym e))
 
 module _ (s p m : List ℕ) (offer budget ticks : ℕ) where
-  abbrev ran : Run
-  ran = runOf budget (coreOf s) p m (offerOf offer)
+  abbrev theRun : Run
+  theRun = runOf budget (coreOf s) p m (offerOf offer)
 
   abbrev runRows : List (ℕ × Bool)
   runRows = checkRows s offer ((24, goesOn budget (coreOf s) p m (offerOf offer)) ∷ [])
 
   -- none of the checks' numbers is a run's
-  run-above : (n : ℕ) → 5 < n → n < 16 → (ran .answer ≡ n) ↔ (false ≡ true)
+  run-above : (n : ℕ) → 5 < n → n < 16 → (theRun .answer ≡ n) ↔ (false ≡ true)
   run-above n g l =
-      numbers (ran .answer) n
+      numbers (theRun .answer) n
       (λ e. elim (run-number budget (coreOf s) p m (offerOf offer)) [
         | inl t ↦ omega arith
         | inr t ↦ elim t [ inl u ↦ omega arith | inr u ↦ omega arith ]
@@ -162,7 +162,7 @@ module _ (s p m : List ℕ) (offer budget ticks : ℕ) where
       λ o. by-checks s (λ w. refused (rw (o, w) tt)) (λ w b. refused (rw (o, w, b) tt)) (λ w b z. refused (rw (o, w, b, z) tt))
       λ w b z.
       let r : readOf s ≡ record { refusal = 0; core = coreOf s } = rw (w, b, z) refl in
-      let n : avrRunOf s p m offer budget ticks .number ≡ ran .answer = rw (o, r) refl in
+      let n : avrRunOf s p m offer budget ticks .number ≡ theRun .answer = rw (o, r) refl in
       subst (λ (a : ℕ). ExactlyWhen a runRows) (sym n)
       (rw (o, w, b, z) (
         run-above 10 (omega arith) (omega arith),
@@ -200,7 +200,7 @@ tick-calls-write-the-next-core s p m offer =
     called s p m offer o w b z ∙ ap (λ (x : List ℕ). told (numberOf (t .answer)) x (t .bytes)) (written (t .core) s w low)
 
 runs-leave-busy : (budget : ℕ) (k : Core) (p m : List ℕ) (o : Offer) → k .busy ≤ 4 → runOf budget k p m o .core .busy ≤ 4
-unfolding runOf
+unfolding ran
 runs-leave-busy zero k p m o h = h
 runs-leave-busy (suc b) k p m o h =
     let t = tickOf k p m o in
