@@ -1,0 +1,2 @@
+-- `Entries`: an entry of a table does not hang on what is read behind its end.
+pub mod Entries

@@ -1,0 +1,2 @@
+-- `Forms`: the form of a word by a table.
+pub mod Forms
