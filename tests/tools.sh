@@ -87,6 +87,21 @@ holds_sums() {
     ! tools/sources "$made" >"$work/said" && grep -q '../shared/01.md is not the file' "$work/said"
 }
 
+make_table() { # [NAME]: a repository whose patterns are two, and whose table is right, or, where something is given, has one entry replaced by it
+    rm -rf "$made"
+    mkdir -p "$made/crates/source_decode/specs" "$made/crates/form_table/src"
+    printf '    on "1001_0101_1010_1000" (plain (λ x. WDR)) ∷  -- 1\n    on "0000_11rd_dddd_rrrr" (plain (λ x. ADD (x "d") (x "r"))) ∷  -- 2\n' >"$made/crates/source_decode/specs/RustDecode.antt"
+    tools/forms print "$made" | sed "s|^    ADD, // 0x0C?0|    ${1:-ADD}, // 0x0C?0|" >"$made/crates/form_table/src/table.rt"
+}
+
+holds_the_table() { # of 4,096 entries one has a mark, and four high bytes are ADD
+    make_table
+    tools/forms "$made" >/dev/null || return 1
+    [ "$(grep -c '^    LOOK_FURTHER,' "$made/crates/form_table/src/table.rt")" = 1 ] && [ "$(grep -c '^    ADD,' "$made/crates/form_table/src/table.rt")" = 64 ] || return 1
+    make_table UNDEF
+    ! tools/forms "$made" >/dev/null
+}
+
 for sample in tests/contracts/*.sample; do
     as_it_says "$sample"
     note $? "$sample"
@@ -101,3 +116,5 @@ finds_what_is_unclaimed
 note $? 'tools/claims'
 holds_sums
 note $? 'tools/sources'
+holds_the_table
+note $? 'tools/forms'

@@ -1,0 +1,2 @@
+-- `Rule`: what the table is, entry by entry.
+pub mod Rule
