@@ -21,6 +21,10 @@ use Rattle.hex.proofs.read.Met as hex-read
 use Rattle.hex.proofs.write.Met as hex-write
 use Rattle.host.proofs.avr_hex_read.Met as avr-hex-read
 use Rattle.host.proofs.avr_hex_write.Met as avr-hex-write
+use Rattle.forms.proofs.form_of.Met as form-of
+use Rattle.form_table.proofs.forms.Met as forms
+use Rattle.table_decode.proofs.instruction_of.Met as instruction-of
+use Rattle.table_decode.proofs.decode.Met as table-decode
 use Rattle.by_types.proofs.slice.Met as slice
 use Rattle.by_types.proofs.core.Met as core
 use Rattle.contracts.specs.Contracts.{Contracts}
@@ -49,6 +53,10 @@ contracts =
       hex-write = hex-write.met;
       avr-hex-read = avr-hex-read.met;
       avr-hex-write = avr-hex-write.met;
+      form-of = form-of.met;
+      forms = forms.met;
+      instruction-of = instruction-of.met;
+      table-decode = table-decode.met;
       slice = slice.met;
       core = core.met;
     }

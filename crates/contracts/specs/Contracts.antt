@@ -21,6 +21,10 @@ use Rattle.hex.proofs.read.Statement as hex-read
 use Rattle.hex.proofs.write.Statement as hex-write
 use Rattle.host.proofs.avr_hex_read.Statement as avr-hex-read
 use Rattle.host.proofs.avr_hex_write.Statement as avr-hex-write
+use Rattle.forms.proofs.form_of.Statement as form-of
+use Rattle.form_table.proofs.forms.Statement as forms
+use Rattle.table_decode.proofs.instruction_of.Statement as instruction-of
+use Rattle.table_decode.proofs.decode.Statement as table-decode
 use Rattle.by_types.proofs.slice.Statement as slice
 use Rattle.by_types.proofs.core.Statement as core
 
@@ -59,6 +63,13 @@ pub record Contracts : Type 2 where
   -- crates/host/src/hex_files.rt
   pub avr-hex-read : {M : Type 1} → avr-hex-read.statement M
   pub avr-hex-write : {M : Type 1} → avr-hex-write.statement M
+  -- crates/forms/src/lib.rt
+  pub form-of : {M : Type 1} → form-of.statement M
+  -- crates/form_table/src/lib.rt
+  pub forms : {M : Type 1} → forms.statement M
+  -- crates/table_decode/src/lib.rt
+  pub instruction-of : {M : Type 1} → instruction-of.statement M
+  pub table-decode : {M : Type 1} → table-decode.statement M
   -- crates/by_types/src/lib.rt
   pub slice : {M : Type 1} → slice.statement M
   pub core : {M : Type 1} → core.statement M

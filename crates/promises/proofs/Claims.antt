@@ -16,6 +16,7 @@ use Rattle.table.proofs.HostCalls.{tick-calls-write-the-next-core, run-calls-wr
 use Rattle.tracing.proofs.Example.{example}
 use Rattle.tracing.proofs.Whole.{whole-trace}
 use Rattle.tracing.proofs.Cut.{cut-trace}
+use Rattle.table_decode.proofs.Alike.{decodes-alike, ticks-alike, runs-alike}
 use Rattle.hex.proofs.Exactly.{each-number-exactly}
 use Rattle.hex.proofs.GivenBack.{given-back}
 use Rattle.hex.proofs.Unchanged.{refused-read, refused-write}
@@ -52,6 +53,9 @@ claims =
       after-sei = safe-after-sei;
       sampling = sampling-routine;
       old-snapshots = old-snapshots-read-unchanged;
+      decodes-alike = decodes-alike;
+      ticks-alike = ticks-alike;
+      runs-alike = runs-alike;
       hex-numbers = each-number-exactly;
       hex-given-back = given-back;
       hex-refused-read = refused-read;

@@ -11,6 +11,7 @@ use Rattle.source.specs.Bench.{BenchOnTheRust, FreshCoresAreSound}
 use Rattle.manual.specs.Witnesses.{Agreements}
 use Rattle.table.specs.Calls.{TickCallsWriteTheNextCore, RunCallsWriteTheLastCore}
 use Rattle.tracing.specs.Trace.{Example, WholeTrace, CutTrace}
+use Rattle.table_decode.specs.Alike.{DecodesAlike, TicksAlike, RunsAlike}
 use Rattle.hex.specs.Answers.{EachNumberExactly}
 use Rattle.hex.specs.Promises.{WritingIsGivenBack, RefusedReadChangesNothing, RefusedWriteChangesNothing, NamedAtMostOnce, EachByteOfAFileRead, TextLength}
 use Rattle.hex.specs.Examples.{Examples}
@@ -51,6 +52,10 @@ pub record Claims : Type 0 where
   pub sampling : SamplingRoutine
   -- crates/snapshot/specs/Snapshot.antt: what read before there was a rule reads the same, with rule source
   pub old-snapshots : OldSnapshotsReadUnchanged
+  -- crates/table_decode/specs/Alike.antt: by the table every word is decoded as before, and no tick and no run can tell which decoder was used
+  pub decodes-alike : DecodesAlike
+  pub ticks-alike : TicksAlike
+  pub runs-alike : RunsAlike
   -- crates/hex/specs/Answers.antt: HEX files, each of 02's numbers 50 to 57 exactly where its condition holds, and at which line
   pub hex-numbers : EachNumberExactly
   -- crates/hex/specs/Promises.antt: what the writer made is given back; refused, nothing changes; no byte is named twice; what each byte then is; how long a text is
