@@ -2,7 +2,7 @@
 -- Assumes nothing.
 use borrow.Author.Needs.{needs}
 use Rattle.instruction.proofs.Cases.{missed}
-use Rattle.table_decode.specs.Decoding.{instructions, instructionOf}
+use Rattle.table_decode.specs.Decoding.{instructions, byForm, instructionOf}
 use Rattle.table_decode.proofs.instruction_of.Statement.{statement}
 use Rattle.table_decode.proofs.instruction_of.Tie as tie
 
@@ -214,4 +214,4 @@ instruction-of-spec =
     (λ c. rw (c .K86 .ensures, c .before .d47 .ensures, c .before .before .match .keys83))
     (λ c. rw (c .d550 .ensures, c .before .match .keys84))
     (λ c. rw (c .match .keys85))
-    (λ c. let a = c .before .args in missed (a .form) (instructions (a .w) (a .prefetch)) (c .match .rest)))
+    (λ c. let a = c .before .args in missed (a .form) (byForm (instructions (a .w) (a .prefetch))) (c .match .rest)))
