@@ -11,6 +11,7 @@ find_words() { # the images, and one of every word
 }
 
 find_program() { # as rt runs it: off x86-64 with the loader and the library of the kit
+    needs rt
     rt check decoding >&2 || not_run "crates/decoding is not proved"
     program=target/bin/decoding
     if [ "$(uname -m)" != x86_64 ]; then
