@@ -5,12 +5,7 @@ use mathlib.Core.List.{List, [], _∷_}
 use Prim.Native.Nat.{ℕ, zero, suc, _+_, _*_, _/_, _%_}
 use lib.Dec.{eqb}
 use Rattle.basis.specs.Pick.{pick}
-use Rattle.instruction.specs.Decode.{decodeOf}
-use Rattle.forms.specs.Forms.{form, mark}
-
--- what the present decoder says of a word: its form does not hang on the second word
-abbrev pub formOf : ℕ → ℕ
-formOf w = form (decodeOf w 0)
+use Rattle.forms.specs.Forms.{formOf, mark}
 
 -- the word with that index and those remaining bits
 abbrev pub wordAt : ℕ → ℕ → ℕ

@@ -6,13 +6,17 @@ use lib.Dec.{eqb}
 use lib.ListN.{getD}
 use Rattle.basis.specs.Pick.{pick}
 use Rattle.instruction.specs.Code.{code}
-use Rattle.instruction.specs.Decode.{Cases, look, under, mulsuToFmulsuOf, controlOf, indirectOf}
+use Rattle.instruction.specs.Decode.{Cases, look, under, decodeOf, mulsuToFmulsuOf, controlOf, indirectOf}
 use Rattle.instruction.specs.declared.Instruction.{Instruction}
 use Rattle.instruction.specs.declared.Instruction.the-variants.{NOP, UNDEF}
 
 -- "the instruction's form": its place in the enum, whatever its fields
 abbrev pub form : Instruction → ℕ
 form i = code i .0
+
+-- what the present decoder says of a word: its form does not hang on the second word
+abbrev pub formOf : ℕ → ℕ
+formOf w = form (decodeOf w 0)
 
 -- "or a mark": the number of no form
 abbrev pub mark : ℕ

@@ -1,2 +1,3 @@
--- `Forms`: the form of a word by a table.
+-- `Forms`: the form of a word by a table. `Instructions`: the instruction of a form.
 pub mod Forms
+pub mod Instructions

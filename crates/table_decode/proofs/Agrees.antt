@@ -12,22 +12,15 @@ use Rattle.basis.specs.Pick.{pick}
 use Rattle.basis.proofs.Choice.{test}
 use Rattle.basis.proofs.Every.{every, at}
 use Rattle.instruction.specs.Decode.{decodeOf, nopToAddOf, mulsuToFmulsuOf, cpseToAdcOf, andToMovOf, immediateOf, displacedOf, loadOf, storeOf, oneRegisterOf, controlOf, indirectOf, wordImmediateOf, portBitOf, portOf, relativeOf, branchOrBitOf, registerBitOf, ranges}
-use Rattle.instruction.specs.Fields.{withSecond}
 use Rattle.instruction.specs.declared.Instruction.{Instruction}
 use Rattle.instruction.specs.declared.Instruction.the-variants.{UNDEF}
 use Rattle.instruction.proofs.Cases.{past}
-use Rattle.instruction.proofs.Laws.{second-word-alone}
 use Rattle.instruction.proofs.Tests.{each}
-use Rattle.forms.specs.Forms.{form, mark, index, entryAt, furtherOf, formBy}
-use Rattle.form_table.specs.Rule.{formOf, wordAt, allAre, entryOf, entriesFrom, tableOf}
+use Rattle.forms.specs.Forms.{form, formOf, mark, index, entryAt, furtherOf, formBy}
+use Rattle.forms.proofs.Alone.{form-alone}
+use Rattle.form_table.specs.Rule.{wordAt, allAre, entryOf, entriesFrom, tableOf}
 
 -- ---- forms
--- the second word changes no form
-form-alone : (w s : ℕ) → form (decodeOf w s) ≡ formOf w
-form-alone w s =
-    let kept = each (λ op. eqb (form (withSecond s op)) (form op)) (λ a b. tt) tt (decodeOf w 0) in
-    ap form (second-word-alone w s) ∙ eqb→eq (form (withSecond s (decodeOf w 0))) (formOf w) kept
-
 -- no form is the mark
 unmarked : (op : Instruction) → eqb (form op) mark ≡ false
 unmarked op =

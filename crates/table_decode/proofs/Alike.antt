@@ -9,7 +9,7 @@ use Rattle.run.specs.Run.{ran}
 use Rattle.form_table.specs.Rule.{tableOf}
 use Rattle.table_decode.specs.Decoding.{decodedBy}
 use Rattle.table_decode.specs.Alike.{DecodesAlike, TicksAlike, RunsAlike}
-use Rattle.table_decode.proofs.Fields.{fields-fit}
+use Rattle.forms.proofs.Fit.{fields-fit}
 use Rattle.table_decode.proofs.Agrees.{agrees}
 
 pub decodes-alike : DecodesAlike

@@ -1,4 +1,3 @@
--- `Fields`: the fields of a decoded word are those of its form. `Agrees`: the form by the table is that of the decoded word. `Alike`: so the two decoders are the same, and so are ticks and runs by them.
-pub mod Fields
+-- `Agrees`: the form by the table is that of the decoded word. `Alike`: so the two decoders are the same, and so are ticks and runs by them.
 pub mod Agrees
 pub mod Alike

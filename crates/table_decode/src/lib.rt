@@ -3,7 +3,8 @@ use forms::fields::*;
 use forms::form::*;
 use instruction::Instruction;
 ghost use mathlib.Core.Path.{_≡_};
-ghost use Rattle.table_decode.specs.Decoding.{instructionOf, decodedBy};
+ghost use Rattle.forms.specs.Instructions.{instructionOf};
+ghost use Rattle.table_decode.specs.Decoding.{decodedBy};
 
 // One match, an arm a form, in the order of the enum. The word is `w`.
 pub fn instruction_of(form: u8, w: u16, prefetch: u16) -> Instruction

@@ -2,7 +2,7 @@
 -- Assumes nothing.
 use borrow.Author.Needs.{needs}
 use Rattle.instruction.proofs.Cases.{missed}
-use Rattle.table_decode.specs.Decoding.{instructions, byForm, instructionOf}
+use Rattle.forms.specs.Instructions.{instructions, byForm, instructionOf}
 use Rattle.table_decode.proofs.instruction_of.Statement.{statement}
 use Rattle.table_decode.proofs.instruction_of.Tie as tie
 

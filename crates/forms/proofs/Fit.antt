@@ -5,8 +5,8 @@ use Prim.Native.Nat.{ℕ, _+_, _*_, _/_, _%_}
 use Rattle.instruction.specs.Decode.{Cases, look, under, decodeOf, ranges, nopToAddOf, nopToAdd, mulsuToFmulsuOf, mulsuToFmulsu, cpseToAdcOf, cpseToAdc, andToMovOf, andToMov, immediateOf, immediate, displacedOf, displaced, loadOf, load, storeOf, store, oneRegisterOf, oneRegister, controlOf, control, controlRest, indirectOf, indirect, wordImmediateOf, wordImmediate, portBitOf, portBit, portOf, port, relativeOf, relative, branchOrBitOf, branchOrBit, registerBitOf, registerBit}
 use Rattle.instruction.specs.declared.Instruction.{Instruction}
 use Rattle.instruction.proofs.Cases.{All, all-looked, all-ranged}
 use Rattle.forms.specs.Forms.{form}
-use Rattle.table_decode.specs.Decoding.{instructionOf}
+use Rattle.forms.specs.Instructions.{instructionOf}
 
 module _ (w s : ℕ) where
   -- i has the fields that the two words have for its form
