@@ -17,7 +17,7 @@ pub(crate) fn further(opcode: u16) -> u8
 }
 
 // 0x0300 to 0x03FF.
-fn multiply(opcode: u16) -> u8
+pub fn multiply(opcode: u16) -> u8
     ensures { λ r. ⌜ r ≡ form (mulsuToFmulsuOf opcode) ⌝ }
 {
     match opcode / 128 % 2 * 2 + opcode / 8 % 2 {
@@ -39,7 +39,7 @@ fn control_or_indirect(opcode: u16) -> u8
 }
 
 // 0x9408 and each sixteenth word after it, to 0x95F8.
-fn control(opcode: u16) -> u8
+pub fn control(opcode: u16) -> u8
     ensures { λ r. ⌜ r ≡ form (controlOf opcode) ⌝ }
 {
     match opcode / 16 % 32 {
@@ -56,7 +56,7 @@ fn control(opcode: u16) -> u8
 }
 
 // 0x9409 and each sixteenth word after it, to 0x95F9.
-fn indirect(opcode: u16) -> u8
+pub fn indirect(opcode: u16) -> u8
     ensures { λ r. ⌜ r ≡ form (indirectOf opcode) ⌝ }
 {
     match opcode / 16 % 32 {

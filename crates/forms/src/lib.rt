@@ -4,7 +4,7 @@ ghost use Rattle.forms.specs.Forms.{entryAt, formBy};
 
 pub mod fields;
 pub mod form;
-mod further;
+pub mod further;
 
 // What the table says of the word; behind its end every word is undefined.
 fn entry_at(table: &[u8], opcode: u16) -> u8
