@@ -1,0 +1,14 @@
+-- `data_bit_is`: the byte is there, and its bit.
+-- Assumes nothing.
+use borrow.Author.Needs.{needs}
+use Rattle.effects.proofs.hops.data_bit_is.Statement.{statement}
+use Rattle.effects.proofs.hops.data_bit_is.Tie as tie
+
+pub data-bit-is-spec : {M : Type 1} → statement M
+data-bit-is-spec =
+    tie.close
+    (tie.spec
+    (λ c κs. search needs)
+    (λ c κs. search needs)
+    (λ c κs. search needs)
+    (λ c. rw (c .bit .ensures, c .before .read .ensures, c .before .before .has .ensures)))

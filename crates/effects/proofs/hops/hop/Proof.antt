@@ -1,0 +1,13 @@
+-- `hop` is its definition.
+-- Assumes nothing.
+use borrow.Author.Needs.{needs}
+use Rattle.effects.proofs.hops.hop.Statement.{statement}
+use Rattle.effects.proofs.hops.hop.Tie as tie
+
+pub hop-spec : {M : Type 1} → statement M
+hop-spec =
+    tie.close
+    (tie.spec
+    (λ c κs. search needs)
+    (λ c. rw (c .before .if1 .taken, c .wrapping-add-u16 .ensures))
+    (λ c. rw (c .if1 .left)))

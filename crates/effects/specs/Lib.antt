@@ -1,0 +1,2 @@
+-- `Parts`: a core of lent registers and numbers.
+pub mod Parts

@@ -1,0 +1,92 @@
+// DATA TRANSFER INSTRUCTIONS over lent registers, in the order of cores.rs. 0x3D to 0x3F are SP and SREG, the lent bytes stand everywhere else.
+use cores::lent::put_word;
+use cores::pointer;
+ghost use mathlib.Core.Path.{_≡_};
+ghost use lib.ListN.{getD, set};
+ghost use Prim.Native.Nat.{_+_};
+ghost use Rattle.basis.specs.Bit.{up};
+ghost use Rattle.memory.specs.Memory.{wordOf};
+ghost use Rattle.cores.specs.Transfer.{dataOf};
+ghost use Rattle.effects.specs.Parts.{seen, sregStored, spStored, bytesStored, pointerSet, pointedAt, lowered, loaded};
+
+// SREG and SP behind a store, which may be to them.
+pub(crate) struct Stored {
+    pub sreg: u8,
+    pub sp: u16,
+}
+
+pub(crate) fn get_data_space(address: usize, sreg: u8, sp: u16, data: &[u8]) -> u8
+    ensures { λ r. ⌜ r ≡ dataOf (seen sreg sp) address (now («data» .entry)) ⌝ }
+{
+    match address {
+        0x3F => sreg,
+        0x3E => (sp / 256) as u8,
+        0x3D => (sp % 256) as u8,
+        _ => memory::read(data, address),
+    }
+}
+
+pub(crate) fn set_data_space(address: usize, value: u8, sreg: u8, sp: u16, data: &mut [u8]) -> Stored
+    ensures { λ s. ⌜ s ≡ record { sreg = sregStored address value sreg; sp = spStored address value sp } ⌝ }
+    ensures { λ _. ⌜ now («data» .exit) ≡ bytesStored address value (now («data» .entry)) ⌝ }
+{
+    match address {
+        0x3F => Stored { sreg: value, sp },
+        0x3E => Stored { sreg, sp: value as u16 * 256 + sp % 256 },
+        0x3D => Stored { sreg, sp: sp / 256 * 256 + value as u16 },
+        _ => {
+            memory::write(data, address, value);
+            Stored { sreg, sp }
+        }
+    }
+}
+
+// The pointer, one lower where dec.
+pub fn pointed(regs: &[u8], pointer: u8, dec: bool) -> u16
+    ensures { λ r. ⌜ r ≡ pointedAt (now (regs .entry)) pointer dec ⌝ }
+{
+    let address = memory::read_word(regs, pointer as usize);
+    if dec {
+        std::num::wrapping_sub_u16(address, 1)
+    } else {
+        address
+    }
+}
+
+fn set_word_if(regs: &mut [u8], on: bool, pointer: u8, address: u16)
+    ensures { λ _. ⌜ now (regs .exit) ≡ pointerSet (now (regs .entry)) on pointer address ⌝ }
+{
+    if on {
+        put_word(regs, pointer, address);
+    }
+}
+
+pub(crate) fn ld(regs: &mut [u8], d: u8, pointer: u8, q: u8, dec: bool, inc: bool, sreg: u8, sp: u16, data: &[u8])
+    ensures { λ _. ⌜ now (regs .exit) ≡ loaded (now (regs .entry)) d pointer q dec inc sreg sp (now («data» .entry)) ⌝ }
+{
+    let address = pointed(regs, pointer, dec);
+    set_word_if(regs, dec, pointer, address);
+    let value = get_data_space(address as usize + q as usize, sreg, sp, data);
+    memory::write(regs, d as usize, value);
+    set_word_if(regs, inc, pointer, std::num::wrapping_add_u16(address, 1));
+}
+
+pub(crate) fn st(regs: &mut [u8], r: u8, pointer: u8, q: u8, dec: bool, inc: bool, sreg: u8, sp: u16, data: &mut [u8]) -> Stored
+    ensures { λ s. ⌜ s ≡ (let at = pointedAt (now (regs .entry)) pointer dec + q in let v = getD (lowered (now (regs .entry)) pointer dec) r 0 in record { sreg = sregStored at v sreg; sp = spStored at v sp }) ⌝ }
+    ensures { λ _. ⌜ now (regs .exit) ≡ pointerSet (lowered (now (regs .entry)) pointer dec) inc pointer (up (pointedAt (now (regs .entry)) pointer dec) 1) ⌝ }
+    ensures { λ _. ⌜ now («data» .exit) ≡ bytesStored (pointedAt (now (regs .entry)) pointer dec + q) (getD (lowered (now (regs .entry)) pointer dec) r 0) (now («data» .entry)) ⌝ }
+{
+    let address = pointed(regs, pointer, dec);
+    set_word_if(regs, dec, pointer, address);
+    let stored = set_data_space(address as usize + q as usize, memory::read(regs, r as usize), sreg, sp, data);
+    set_word_if(regs, inc, pointer, std::num::wrapping_add_u16(address, 1));
+    stored
+}
+
+pub(crate) fn lpm(regs: &mut [u8], d: u8, inc: bool, program: &[u8])
+    ensures { λ _. ⌜ now (regs .exit) ≡ (let at = wordOf (now (regs .entry)) 30 in pointerSet (set (now (regs .entry)) d (getD (now (program .entry)) at 0)) inc 30 (up at 1)) ⌝ }
+{
+    let address = memory::read_word(regs, pointer::Z as usize);
+    memory::write(regs, d as usize, memory::read(program, address as usize));
+    set_word_if(regs, inc, pointer::Z, std::num::wrapping_add_u16(address, 1));
+}
