@@ -6,6 +6,8 @@ ghost use mathlib.Core.Path.{_≡_};
 ghost use Rattle.tick.specs.Tick.{numberOf};
 ghost use Rattle.run.specs.Run.{runOf, Runs};
 
+mod go;
+
 // The answer is 24, 22, 23 or the refusal, by 01's numbers; `ticks` counts the ticks done.
 pub struct Ran {
     pub answer: u8,
