@@ -2,3 +2,6 @@
 pub mod Unroll
 pub mod Larger
 pub mod Ticks
+pub mod Unrefused
+pub mod Rest
+pub mod Told
