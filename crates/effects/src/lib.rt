@@ -14,8 +14,6 @@ mod hops;
 mod stack;
 mod transfer;
 
-pub use transfer::pointed;
-
 use hops::data_bit_is;
 use hops::flag_is;
 use hops::hop;
@@ -26,6 +24,7 @@ use stack::push_word;
 use transfer::get_data_space;
 use transfer::ld;
 use transfer::lpm;
+pub use transfer::pointed;
 use transfer::set_data_space;
 use transfer::st;
 
@@ -79,7 +78,8 @@ pub fn effect(
             busy = 2;
         }
         CPSE => {
-            let equal = memory::read(regs, d5(opcode) as usize) == memory::read(regs, r5(opcode) as usize);
+            let equal = memory::read(regs, d5(opcode) as usize)
+                == memory::read(regs, r5(opcode) as usize);
             busy = words_over(equal, memory::get_progmem(program, pc as u32));
             pc = std::num::wrapping_add_u16(pc, busy as u16);
         }
@@ -118,25 +118,51 @@ pub fn effect(
             busy = 1;
         }
         SBIC => {
-            busy = words_over(data_bit_is(data, A5(opcode), b3(opcode), false), memory::get_progmem(program, pc as u32));
+            busy = words_over(
+                data_bit_is(data, A5(opcode), b3(opcode), false),
+                memory::get_progmem(program, pc as u32),
+            );
             pc = std::num::wrapping_add_u16(pc, busy as u16);
         }
         SBIS => {
-            busy = words_over(data_bit_is(data, A5(opcode), b3(opcode), true), memory::get_progmem(program, pc as u32));
+            busy = words_over(
+                data_bit_is(data, A5(opcode), b3(opcode), true),
+                memory::get_progmem(program, pc as u32),
+            );
             pc = std::num::wrapping_add_u16(pc, busy as u16);
         }
         SBRC => {
-            busy = words_over(register_bit_is(regs, d5(opcode), b3(opcode), false), memory::get_progmem(program, pc as u32));
+            busy = words_over(
+                register_bit_is(regs, d5(opcode), b3(opcode), false),
+                memory::get_progmem(program, pc as u32),
+            );
             pc = std::num::wrapping_add_u16(pc, busy as u16);
         }
         SBRS => {
-            busy = words_over(register_bit_is(regs, d5(opcode), b3(opcode), true), memory::get_progmem(program, pc as u32));
+            busy = words_over(
+                register_bit_is(regs, d5(opcode), b3(opcode), true),
+                memory::get_progmem(program, pc as u32),
+            );
             pc = std::num::wrapping_add_u16(pc, busy as u16);
         }
         // Data Transfer Instructions
-        IN => memory::write(regs, d5(opcode) as usize, get_data_space(A6(opcode) as usize, sreg, sp, data)),
+        IN => memory::write(
+            regs,
+            d5(opcode) as usize,
+            get_data_space(A6(opcode) as usize, sreg, sp, data),
+        ),
         LDX => {
-            ld(regs, d5(opcode), pointer::X, 0, false, false, sreg, sp, data);
+            ld(
+                regs,
+                d5(opcode),
+                pointer::X,
+                0,
+                false,
+                false,
+                sreg,
+                sp,
+                data,
+            );
             busy = rule::load_waits(chip);
         }
         LDXinc => {
@@ -164,15 +190,44 @@ pub fn effect(
             busy = rule::load_waits(chip);
         }
         LDDY => {
-            ld(regs, d5(opcode), pointer::Y, q6(opcode), false, false, sreg, sp, data);
+            ld(
+                regs,
+                d5(opcode),
+                pointer::Y,
+                q6(opcode),
+                false,
+                false,
+                sreg,
+                sp,
+                data,
+            );
             busy = rule::load_waits(chip);
         }
         LDDZ => {
-            ld(regs, d5(opcode), pointer::Z, q6(opcode), false, false, sreg, sp, data);
+            ld(
+                regs,
+                d5(opcode),
+                pointer::Z,
+                q6(opcode),
+                false,
+                false,
+                sreg,
+                sp,
+                data,
+            );
             busy = rule::load_waits(chip);
         }
         LDS => {
-            memory::write(regs, d5(opcode) as usize, get_data_space(memory::get_progmem(program, pc as u32) as usize, sreg, sp, data));
+            memory::write(
+                regs,
+                d5(opcode) as usize,
+                get_data_space(
+                    memory::get_progmem(program, pc as u32) as usize,
+                    sreg,
+                    sp,
+                    data,
+                ),
+            );
             pc = std::num::wrapping_add_u16(pc, 1);
             busy = 2;
         }
@@ -189,22 +244,48 @@ pub fn effect(
             busy = 2;
         }
         OUT => {
-            let stored = set_data_space(A6(opcode) as usize, memory::read(regs, d5(opcode) as usize), sreg, sp, data);
+            let stored = set_data_space(
+                A6(opcode) as usize,
+                memory::read(regs, d5(opcode) as usize),
+                sreg,
+                sp,
+                data,
+            );
             sreg = stored.sreg;
             sp = stored.sp;
         }
         POP => {
             sp = std::num::wrapping_add_u16(sp, 1);
-            memory::write(regs, d5(opcode) as usize, get_data_space(sp as usize, sreg, sp, data));
+            memory::write(
+                regs,
+                d5(opcode) as usize,
+                get_data_space(sp as usize, sreg, sp, data),
+            );
             busy = 1;
         }
         PUSH => {
-            let stored = set_data_space(sp as usize, memory::read(regs, d5(opcode) as usize), sreg, sp, data);
+            let stored = set_data_space(
+                sp as usize,
+                memory::read(regs, d5(opcode) as usize),
+                sreg,
+                sp,
+                data,
+            );
             sreg = stored.sreg;
             sp = std::num::wrapping_sub_u16(stored.sp, 1);
         }
         STX => {
-            let stored = st(regs, d5(opcode), pointer::X, 0, false, false, sreg, sp, data);
+            let stored = st(
+                regs,
+                d5(opcode),
+                pointer::X,
+                0,
+                false,
+                false,
+                sreg,
+                sp,
+                data,
+            );
             sreg = stored.sreg;
             sp = stored.sp;
             busy = rule::store_waits(chip);
@@ -246,19 +327,45 @@ pub fn effect(
             busy = rule::store_waits(chip);
         }
         STDY => {
-            let stored = st(regs, d5(opcode), pointer::Y, q6(opcode), false, false, sreg, sp, data);
+            let stored = st(
+                regs,
+                d5(opcode),
+                pointer::Y,
+                q6(opcode),
+                false,
+                false,
+                sreg,
+                sp,
+                data,
+            );
             sreg = stored.sreg;
             sp = stored.sp;
             busy = rule::store_waits(chip);
         }
         STDZ => {
-            let stored = st(regs, d5(opcode), pointer::Z, q6(opcode), false, false, sreg, sp, data);
+            let stored = st(
+                regs,
+                d5(opcode),
+                pointer::Z,
+                q6(opcode),
+                false,
+                false,
+                sreg,
+                sp,
+                data,
+            );
             sreg = stored.sreg;
             sp = stored.sp;
             busy = rule::store_waits(chip);
         }
         STS => {
-            let stored = set_data_space(memory::get_progmem(program, pc as u32) as usize, memory::read(regs, d5(opcode) as usize), sreg, sp, data);
+            let stored = set_data_space(
+                memory::get_progmem(program, pc as u32) as usize,
+                memory::read(regs, d5(opcode) as usize),
+                sreg,
+                sp,
+                data,
+            );
             sreg = stored.sreg;
             sp = stored.sp;
             pc = std::num::wrapping_add_u16(pc, 1);

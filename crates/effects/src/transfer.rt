@@ -26,14 +26,26 @@ pub(crate) fn get_data_space(address: usize, sreg: u8, sp: u16, data: &[u8]) -> 
     }
 }
 
-pub(crate) fn set_data_space(address: usize, value: u8, sreg: u8, sp: u16, data: &mut [u8]) -> Stored
+pub(crate) fn set_data_space(
+    address: usize,
+    value: u8,
+    sreg: u8,
+    sp: u16,
+    data: &mut [u8],
+) -> Stored
     ensures { λ s. ⌜ s ≡ record { sreg = sregStored address value sreg; sp = spStored address value sp } ⌝ }
     ensures { λ _. ⌜ now («data» .exit) ≡ bytesStored address value (now («data» .entry)) ⌝ }
 {
     match address {
         0x3F => Stored { sreg: value, sp },
-        0x3E => Stored { sreg, sp: value as u16 * 256 + sp % 256 },
-        0x3D => Stored { sreg, sp: sp / 256 * 256 + value as u16 },
+        0x3E => Stored {
+            sreg,
+            sp: value as u16 * 256 + sp % 256,
+        },
+        0x3D => Stored {
+            sreg,
+            sp: sp / 256 * 256 + value as u16,
+        },
         _ => {
             memory::write(data, address, value);
             Stored { sreg, sp }
@@ -61,7 +73,17 @@ fn set_word_if(regs: &mut [u8], on: bool, pointer: u8, address: u16)
     }
 }
 
-pub(crate) fn ld(regs: &mut [u8], d: u8, pointer: u8, q: u8, dec: bool, inc: bool, sreg: u8, sp: u16, data: &[u8])
+pub(crate) fn ld(
+    regs: &mut [u8],
+    d: u8,
+    pointer: u8,
+    q: u8,
+    dec: bool,
+    inc: bool,
+    sreg: u8,
+    sp: u16,
+    data: &[u8],
+)
     ensures { λ _. ⌜ now (regs .exit) ≡ loaded (now (regs .entry)) d pointer q dec inc sreg sp (now («data» .entry)) ⌝ }
 {
     let address = pointed(regs, pointer, dec);
@@ -71,14 +93,30 @@ pub(crate) fn ld(regs: &mut [u8], d: u8, pointer: u8, q: u8, dec: bool, inc: boo
     set_word_if(regs, inc, pointer, std::num::wrapping_add_u16(address, 1));
 }
 
-pub(crate) fn st(regs: &mut [u8], r: u8, pointer: u8, q: u8, dec: bool, inc: bool, sreg: u8, sp: u16, data: &mut [u8]) -> Stored
+pub(crate) fn st(
+    regs: &mut [u8],
+    r: u8,
+    pointer: u8,
+    q: u8,
+    dec: bool,
+    inc: bool,
+    sreg: u8,
+    sp: u16,
+    data: &mut [u8],
+) -> Stored
     ensures { λ s. ⌜ s ≡ (let at = pointedAt (now (regs .entry)) pointer dec + q in let v = getD (lowered (now (regs .entry)) pointer dec) r 0 in record { sreg = sregStored at v sreg; sp = spStored at v sp }) ⌝ }
     ensures { λ _. ⌜ now (regs .exit) ≡ pointerSet (lowered (now (regs .entry)) pointer dec) inc pointer (up (pointedAt (now (regs .entry)) pointer dec) 1) ⌝ }
     ensures { λ _. ⌜ now («data» .exit) ≡ bytesStored (pointedAt (now (regs .entry)) pointer dec + q) (getD (lowered (now (regs .entry)) pointer dec) r 0) (now («data» .entry)) ⌝ }
 {
     let address = pointed(regs, pointer, dec);
     set_word_if(regs, dec, pointer, address);
-    let stored = set_data_space(address as usize + q as usize, memory::read(regs, r as usize), sreg, sp, data);
+    let stored = set_data_space(
+        address as usize + q as usize,
+        memory::read(regs, r as usize),
+        sreg,
+        sp,
+        data,
+    );
     set_word_if(regs, inc, pointer, std::num::wrapping_add_u16(address, 1));
     stored
 }
@@ -88,5 +126,10 @@ pub(crate) fn lpm(regs: &mut [u8], d: u8, inc: bool, program: &[u8])
 {
     let address = memory::read_word(regs, pointer::Z as usize);
     memory::write(regs, d as usize, memory::read(program, address as usize));
-    set_word_if(regs, inc, pointer::Z, std::num::wrapping_add_u16(address, 1));
+    set_word_if(
+        regs,
+        inc,
+        pointer::Z,
+        std::num::wrapping_add_u16(address, 1),
+    );
 }

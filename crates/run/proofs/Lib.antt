@@ -5,3 +5,5 @@ pub mod Ticks
 pub mod Unrefused
 pub mod Rest
 pub mod Told
+pub mod Waits
+pub mod Onward

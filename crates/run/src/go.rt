@@ -1,4 +1,6 @@
 // A stretch of a run over lent registers: plain instructions, one after another, carried out where the registers lie.
+use crate::ready::tells;
+use forms::form::UNDEF;
 ghost use mathlib.Core.Path.{_≡_};
 ghost use Rattle.effects.specs.Parts.{stood, cored};
 ghost use Rattle.run.specs.Lent.{Goes};
@@ -30,12 +32,62 @@ pub(crate) fn go(
 ) -> Gone
     ensures { λ g. ⌜ Goes (cored (now (regs .entry)) (stood pc0 sp0 sreg0 0 inhibit0 in_service0) chip) at0 (now (program .entry)) (now («data» .entry)) offered chip budget g (now (regs .exit)) (now («data» .exit)) ⌝ }
 {
+    let mut pc = pc0;
+    let mut sp = sp0;
+    let mut sreg = sreg0;
+    let mut inhibit = inhibit0;
+    let mut in_service = in_service0;
+    let mut at = at0;
+    while at < budget as u64 {
+        let form = tells(
+            regs,
+            pc,
+            sp,
+            sreg,
+            inhibit,
+            in_service,
+            program,
+            data,
+            offered,
+        );
+        if form == UNDEF {
+            return Gone {
+                at,
+                pc,
+                sp,
+                sreg,
+                inhibit,
+                in_service,
+            };
+        }
+        let opcode = memory::get_progmem(program, pc as u32);
+        let behind = std::num::wrapping_add_u16(pc, 1);
+        let made = effects::effect(
+            form,
+            opcode,
+            regs,
+            behind,
+            sp,
+            sreg,
+            false,
+            in_service,
+            chip,
+            program,
+            data,
+        );
+        pc = made.pc;
+        sp = made.sp;
+        sreg = made.sreg;
+        inhibit = made.inhibit;
+        in_service = made.in_service;
+        at = at + made.busy as u64 + 1;
+    }
     Gone {
-        at: at0,
-        pc: pc0,
-        sp: sp0,
-        sreg: sreg0,
-        inhibit: inhibit0,
-        in_service: in_service0,
+        at,
+        pc,
+        sp,
+        sreg,
+        inhibit,
+        in_service,
     }
 }

@@ -55,12 +55,27 @@ fn ready(form: u8, opcode: u16, regs: &[u8], pc: u16, sp: u16, program: &[u8], d
         LDYdec => plain(effects::pointed(regs, pointer::Y, true) as usize, data),
         LDZinc => plain(effects::pointed(regs, pointer::Z, false) as usize, data),
         LDZdec => plain(effects::pointed(regs, pointer::Z, true) as usize, data),
-        LDDY => plain(effects::pointed(regs, pointer::Y, false) as usize + q6(opcode) as usize, data),
-        LDDZ => plain(effects::pointed(regs, pointer::Z, false) as usize + q6(opcode) as usize, data),
+        LDDY => plain(
+            effects::pointed(regs, pointer::Y, false) as usize + q6(opcode) as usize,
+            data,
+        ),
+        LDDZ => plain(
+            effects::pointed(regs, pointer::Z, false) as usize + q6(opcode) as usize,
+            data,
+        ),
         LDS => plain(memory::get_progmem(program, pc as u32) as usize, data),
-        LPM => memory::has(program, memory::read_word(regs, pointer::Z as usize) as usize),
-        LPMZ => memory::has(program, memory::read_word(regs, pointer::Z as usize) as usize),
-        LPMZinc => memory::has(program, memory::read_word(regs, pointer::Z as usize) as usize),
+        LPM => memory::has(
+            program,
+            memory::read_word(regs, pointer::Z as usize) as usize,
+        ),
+        LPMZ => memory::has(
+            program,
+            memory::read_word(regs, pointer::Z as usize) as usize,
+        ),
+        LPMZinc => memory::has(
+            program,
+            memory::read_word(regs, pointer::Z as usize) as usize,
+        ),
         OUT => cores::in_data_space(A6(opcode) as usize, data),
         POP => plain(std::num::wrapping_add_u16(sp, 1) as usize, data),
         PUSH => plain(sp as usize, data),
@@ -71,8 +86,14 @@ fn ready(form: u8, opcode: u16, regs: &[u8], pc: u16, sp: u16, program: &[u8], d
         STYinc => plain(effects::pointed(regs, pointer::Y, false) as usize, data),
         STZdec => plain(effects::pointed(regs, pointer::Z, true) as usize, data),
         STZinc => plain(effects::pointed(regs, pointer::Z, false) as usize, data),
-        STDY => plain(effects::pointed(regs, pointer::Y, false) as usize + q6(opcode) as usize, data),
-        STDZ => plain(effects::pointed(regs, pointer::Z, false) as usize + q6(opcode) as usize, data),
+        STDY => plain(
+            effects::pointed(regs, pointer::Y, false) as usize + q6(opcode) as usize,
+            data,
+        ),
+        STDZ => plain(
+            effects::pointed(regs, pointer::Z, false) as usize + q6(opcode) as usize,
+            data,
+        ),
         STS => plain(memory::get_progmem(program, pc as u32) as usize, data),
         // Bit and Bit-Test Instructions
         CBI => memory::has(data, A5(opcode) as usize),
@@ -87,7 +108,17 @@ fn ready(form: u8, opcode: u16, regs: &[u8], pc: u16, sp: u16, program: &[u8], d
 }
 
 // The form of the instruction that the next tick carries out, where no interrupt is entered and nothing is refused; UNDEF where the tick is to be made whole.
-pub(crate) fn tells(regs: &[u8], pc: u16, sp: u16, sreg: u8, inhibit: bool, in_service: bool, program: &[u8], data: &[u8], offered: bool) -> u8
+pub(crate) fn tells(
+    regs: &[u8],
+    pc: u16,
+    sp: u16,
+    sreg: u8,
+    inhibit: bool,
+    in_service: bool,
+    program: &[u8],
+    data: &[u8],
+    offered: bool,
+) -> u8
     ensures { λ f. ⌜ Tells (now (regs .entry)) pc sp sreg inhibit in_service (now (program .entry)) (now («data» .entry)) offered f ⌝ }
 {
     if offered & basis::bit(sreg, Core::I) & !in_service & !inhibit {

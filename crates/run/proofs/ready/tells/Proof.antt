@@ -42,12 +42,14 @@ on-form c n =
     let second = sym (words .has-word .ensures) ∙ there in
     let is : f ≡ formOf w = formed .form-of .ensures ∙ ap formOf (fetched .get-progmem .ensures) in
     let fine : Unrefused (a .regs .now) (a .pc + 1) (a .sp) p (a .«data» .now) (instructionOf f w x) =
-        rw (fetched .get-progmem .ensures) at (asked .ready .ensures) is (omega (arith, low)) second (c .if3 .taken) in
+    rw (fetched .get-progmem .ensures) at (asked .ready .ensures) is (omega (arith, low)) second (c .if3 .taken) in
     let op = told f w x is in
-    let decoded : Unrefused (a .regs .now) (a .pc + 1) (a .sp) p (a .«data» .now) (decodeOf w x) = rw op at fine in
-    (low, λ chip o e.
-      let undue : (((offers o && bit (a .sreg) 7) && not (a .in-service)) && not (a .inhibit)) ≡ false = rw (e, ← flag .bit .ensures) (words .before .if1 .left) in
-      rw op (told-runs (a .regs .now) (a .pc) (a .sp) (a .sreg) (a .inhibit) (a .in-service) chip p (a .«data» .now) o undue (omega (arith, low)) second decoded))
+    let decoded : Unrefused (a .regs .now) (a .pc + 1) (a .sp) p (a .«data» .now) (decodeOf w x) = rw op at fine in (
+      low,
+      λ chip o e.
+          let undue : (((offers o && bit (a .sreg) 7) && not (a .in-service)) && not (a .inhibit)) ≡ false = rw (e, ← flag .bit .ensures) (words .before .if1 .left) in
+          rw op (told-runs (a .regs .now) (a .pc) (a .sp) (a .sreg) (a .inhibit) (a .in-service) chip p (a .«data» .now) o undue (omega (arith, low)) second decoded),
+    )
 
 pub tells-spec : {M : Type 1} → statement M
 tells-spec =
