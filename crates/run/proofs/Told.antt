@@ -27,7 +27,7 @@ use Rattle.run.specs.Lent.{offers}
 use Rattle.run.specs.Ready.{Unrefused}
 
 -- inhibit, I and in-service, in the order of the code's test
-none-due : (inhibit flag service : Bool) (o : Offer) → (((offers o && flag) && not service) && not inhibit) ≡ false
+none-due : (inhibit flag service : Bool) (o : Offer) → pick (offers o) (flag && not service && not inhibit) false ≡ false
     → pick inhibit Nothing (pick flag (pick service Nothing o) Nothing) ≡ Nothing
 none-due true flag service o h = refl
 none-due false false service o h = refl
@@ -46,11 +46,11 @@ module _ (rs : List ℕ) (pc sp s : ℕ) (inhibit service chip : Bool) (p m : Li
   abbrev op : Instruction
   op = decodeOf (programWordOf p pc) (programWordOf p (pc + 1))
 
-  undue : (((offers o && bit s 7) && not service) && not inhibit) ≡ false → due k o ≡ Nothing
+  undue : pick (offers o) (bit s 7 && not service && not inhibit) false ≡ false → due k o ≡ Nothing
   unfolding withPc withSp withBusy withInhibit withService withChip
   undue h = none-due inhibit (bit s 7) service o h
 
-  pub told-runs : (((offers o && bit s 7) && not service) && not inhibit) ≡ false → pc < 65535 → hasWordOf p (pc + 1) ≡ true → Unrefused rs (pc + 1) sp p m op
+  pub told-runs : pick (offers o) (bit s 7 && not service && not inhibit) false ≡ false → pc < 65535 → hasWordOf p (pc + 1) ≡ true → Unrefused rs (pc + 1) sp p m op
       → tickOf k p m o ≡ gives Ran (executed decodeOf next op p m .core) (executed decodeOf next op p m .bytes)
   unfolding entersOrSteps stepped withPc withSp withBusy withInhibit withService withChip
   told-runs h low words (runs, fine) =

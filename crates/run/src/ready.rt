@@ -4,9 +4,11 @@ use cores::pointer;
 use forms::fields::*;
 use forms::form::*;
 ghost use mathlib.Core.Path.{_≡_};
-ghost use mathlib.Core.Bool.{_&&_};
+ghost use mathlib.Core.Bool.{false, not, _&&_};
 ghost use lib.Dec.{leb, ltb};
 ghost use lib.ListN.{length};
+ghost use Rattle.basis.specs.Pick.{pick};
+ghost use Rattle.basis.specs.Bit.{bit};
 ghost use Prim.Native.Nat.{_+_, _<_};
 ghost use Rattle.memory.specs.Memory.{hasOf};
 ghost use Rattle.run.specs.Ready.{plainOf, Readies, Tells};
@@ -107,6 +109,16 @@ fn ready(form: u8, opcode: u16, regs: &[u8], pc: u16, sp: u16, program: &[u8], d
     }
 }
 
+// Whether an interrupt would be entered. `offered` first: it is the same in all ticks of a run.
+fn is_due(offered: bool, sreg: u8, inhibit: bool, in_service: bool) -> bool
+    ensures { λ b. ⌜ b ≡ pick offered (bit sreg 7 && not «in_service» && not inhibit) false ⌝ }
+{
+    if offered {
+        return basis::bit(sreg, Core::I) & !in_service & !inhibit;
+    }
+    false
+}
+
 // The form of the instruction that the next tick carries out, where no interrupt is entered and nothing is refused; UNDEF where the tick is to be made whole.
 pub(crate) fn tells(
     regs: &[u8],
@@ -121,7 +133,7 @@ pub(crate) fn tells(
 ) -> u8
     ensures { λ f. ⌜ Tells (now (regs .entry)) pc sp sreg inhibit in_service (now (program .entry)) (now («data» .entry)) offered f ⌝ }
 {
-    if offered & basis::bit(sreg, Core::I) & !in_service & !inhibit {
+    if is_due(offered, sreg, inhibit, in_service) {
         return UNDEF;
     }
     if (pc >= 65533) | !memory::has_word(program, pc as u32 + 1) {

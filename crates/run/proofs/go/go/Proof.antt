@@ -56,10 +56,22 @@ on-again c =
     let (low, runs) = asked .tells .ensures (behind .before .before .if1 .left) in
     let up-one : behind .wrapping-add-u16 .result ≡ l .pc + 1 = omega (arith, low) in
     let left = rw (up-one, behind .before .get-progmem .ensures) at (made .ensures) in
-    let few = few-waits (l .regs) _ (l .pc + 1) (l .sp) (l .sreg) (l .in-service) (a .chip) z (instructionOf f w x) p (l .«data») _ left in
-    (omega arith, (λ h. omega (arith, few, l .inv .1 .0 h), (c .before .before .before .before .regs .given ∙ l .inv .1 .1 .0, (c .before .before .«data» .given ∙ l .inv .1 .1 .1 .0,
-    (λ o e. l .inv .1 .1 .1 .1 .0 o e ∙ carried-on (l .regs) _ (l .pc + 1) (l .sp) (l .sreg) (l .in-service) (a .chip) z (instructionOf f w x) p (l .«data») _ left (a .budget) (l .at) _ o (asked .before .before .before .loop-test .taken) (runs (a .chip) o e),
-    λ o e. ran-first (l .at) _ (a .at0) _ _ _ p (l .«data») _ (a .«data» .now) o (ap (λ (t : Tick). t .answer) (runs (a .chip) o e)) (l .inv .1 .1 .1 .1 .1 o e))))))
+    let few = few-waits (l .regs) _ (l .pc + 1) (l .sp) (l .sreg) (l .in-service) (a .chip) z (instructionOf f w x) p (l .«data») _ left in (
+      omega arith,
+      (
+        λ h. omega (arith, few, l .inv .1 .0 h),
+        (
+          c .before .before .before .before .regs .given ∙ l .inv .1 .1 .0,
+          (
+            c .before .before .«data» .given ∙ l .inv .1 .1 .1 .0,
+            (
+              λ o e. l .inv .1 .1 .1 .1 .0 o e ∙ carried-on (l .regs) _ (l .pc + 1) (l .sp) (l .sreg) (l .in-service) (a .chip) z (instructionOf f w x) p (l .«data») _ left (a .budget) (l .at) _ o (asked .before .before .before .loop-test .taken) (runs (a .chip) o e),
+              λ o e. ran-first (l .at) _ (a .at0) _ _ _ p (l .«data») _ (a .«data» .now) o (ap (λ (t : Tick). t .answer) (runs (a .chip) o e)) (l .inv .1 .1 .1 .1 .1 o e),
+            ),
+          ),
+        ),
+      ),
+    )
 
 pub go-spec : {M : Type 1} → statement M
 go-spec =

@@ -6,6 +6,7 @@ use Prim.Native.Nat.{ℕ, _+_, _<_}
 use native.Mathlib.Omega.{arith}
 use borrow.Author.Needs.{needs}
 use borrow.Author.Tests.{leb-false}
+use Rattle.basis.specs.Pick.{pick}
 use lib.Dec.{leb}
 use Rattle.basis.specs.Bit.{bit}
 use Rattle.basis.proofs.Choice.{clash}
@@ -47,7 +48,7 @@ on-form c n =
     let decoded : Unrefused (a .regs .now) (a .pc + 1) (a .sp) p (a .«data» .now) (decodeOf w x) = rw op at fine in (
       low,
       λ chip o e.
-          let undue : (((offers o && bit (a .sreg) 7) && not (a .in-service)) && not (a .inhibit)) ≡ false = rw (e, ← flag .bit .ensures) (words .before .if1 .left) in
+          let undue : pick (offers o) (bit (a .sreg) 7 && not (a .in-service) && not (a .inhibit)) false ≡ false = rw e (sym (flag .is-due .ensures) ∙ words .before .if1 .left) in
           rw op (told-runs (a .regs .now) (a .pc) (a .sp) (a .sreg) (a .inhibit) (a .in-service) chip p (a .«data» .now) o undue (omega (arith, low)) second decoded),
     )
 
