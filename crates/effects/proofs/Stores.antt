@@ -15,8 +15,8 @@ use Rattle.cores.specs.State.{Out, out, Leaves, reg, withRegs, withReg, withWor
 use Rattle.cores.specs.Flow.{overSecond}
 use Rattle.cores.specs.Transfer.{setDataOf, pointedOf, wordIf, pushOf, stOf, stsOf}
 use Rattle.cores.proofs.Space.{Elsewhere}
-use Rattle.effects.specs.declared.transfer.Stored.{Stored}
-use Rattle.effects.specs.Parts.{stood, cored, sregStored, spStored, bytesStored, pointerSet, pointedAt, lowered}
+use Rattle.effects.specs.declared.transfer.Left.{Left}
+use Rattle.effects.specs.Parts.{stood, cored, sregStored, spStored, bytesStored, leftBy, pointerSet, pointedAt, lowered}
 
 -- ---- at an address that is none of the three
 module _ (at : ℕ) (h : Elsewhere at) where
@@ -65,9 +65,9 @@ module _ (pc sp s : ℕ) (i v chip : Bool) (m : List ℕ) where
     unfolding withRegs withPc withSp withBusy withInhibit withService withChip
     outs A = store rs 0 A (getD rs r 0)
 
-    pub out-leaves : (A : ℕ) {t : Stored} {m' : List ℕ} → let x = getD rs r 0 in
-        t ≡ record { sreg = sregStored A x s; sp = spStored A x sp } → m' ≡ bytesStored A x m
-        → Leaves (setDataOf k A (reg k r) m) (cored rs (stood pc (t .sp) (t .sreg) 0 i v) chip) m'
+    pub out-leaves : (A : ℕ) {t : Left} {m' : List ℕ} → let x = getD rs r 0 in
+        t ≡ leftBy A x s sp 0 → m' ≡ bytesStored A x m
+        → Leaves (setDataOf k A (reg k r) m) (cored rs (stood pc (t .sp) (t .sreg) (t .busy) i v) chip) m'
     out-leaves A e f = rw (e, f) (leaves-by (outs A))
 
     pushes : let x = getD rs r 0 in
@@ -75,9 +75,9 @@ module _ (pc sp s : ℕ) (i v chip : Bool) (m : List ℕ) where
     unfolding withRegs withPc withSp withBusy withInhibit withService withChip
     pushes = ap (λ (o : Out). out (withSp (o .core) (down (o .core .sp) 1)) (o .bytes)) (store rs 0 sp (getD rs r 0))
 
-    pub push-leaves : {t : Stored} {m' : List ℕ} {n : ℕ} → let x = getD rs r 0 in
-        t ≡ record { sreg = sregStored sp x s; sp = spStored sp x sp } → m' ≡ bytesStored sp x m → n ≡ down (t .sp) 1
-        → Leaves (pushOf k r m) (cored rs (stood pc n (t .sreg) 0 i v) chip) m'
+    pub push-leaves : {t : Left} {m' : List ℕ} {n : ℕ} → let x = getD rs r 0 in
+        t ≡ leftBy sp x s sp 0 → m' ≡ bytesStored sp x m → n ≡ down (t .sp) 1
+        → Leaves (pushOf k r m) (cored rs (stood pc n (t .sreg) (t .busy) i v) chip) m'
     push-leaves e f g = rw (g, e, f) (leaves-by pushes)
 
     stores-second : (at : ℕ) → let x = getD rs r 0 in let o = stsOf k r at m in
@@ -85,8 +85,8 @@ module _ (pc sp s : ℕ) (i v chip : Bool) (m : List ℕ) where
     unfolding withRegs withPc withSp withBusy withInhibit withService withChip
     stores-second at = ap (λ (o : Out). out (withPc (o .core) (up (o .core .pc) 1)) (o .bytes)) (store rs 1 at (getD rs r 0))
 
-    pub sts-leaves : (at : ℕ) {t : Stored} {m' : List ℕ} → let x = getD rs r 0 in let o = stsOf k r at m in
-        t ≡ record { sreg = sregStored at x s; sp = spStored at x sp } → m' ≡ bytesStored at x m
+    pub sts-leaves : (at : ℕ) {t : Left} {m' : List ℕ} → let x = getD rs r 0 in let o = stsOf k r at m in
+        t ≡ leftBy at x s sp 0 → m' ≡ bytesStored at x m
         → Leaves (out (overSecond (o .core)) (o .bytes)) (cored rs (stood (up pc 1) (t .sp) (t .sreg) 1 i v) chip) m'
     sts-leaves at e f = rw (e, f) (leaves-by (stores-second at))
 
@@ -100,8 +100,7 @@ module _ (pc sp s : ℕ) (i v chip : Bool) (m : List ℕ) where
     stores p q false true = ap (raised p (pointedAt rs p false)) (store rs (storeWaits chip) (pointedAt rs p false + q) (getD rs r 0))
     stores p q false false = store rs (storeWaits chip) (pointedAt rs p false + q) (getD rs r 0)
 
-    pub st-leaves : (p q : ℕ) (dec inc : Bool) {t : Stored} {rs' m' : List ℕ} {busy : ℕ} → let at = pointedAt rs p dec in let x = getD (lowered rs p dec) r 0 in
-        t ≡ record { sreg = sregStored (at + q) x s; sp = spStored (at + q) x sp } → rs' ≡ pointerSet (lowered rs p dec) inc p (up at 1) → m' ≡ bytesStored (at + q) x m
-        → busy ≡ storeWaits chip
-        → Leaves (stOf k r p q dec inc m) (cored rs' (stood pc (t .sp) (t .sreg) busy i v) chip) m'
-    st-leaves p q dec inc e f g h = rw (e, f, g, h) (leaves-by (stores p q dec inc))
+    pub st-leaves : (p q : ℕ) (dec inc : Bool) {t : Left} {rs' m' : List ℕ} → let at = pointedAt rs p dec in let x = getD (lowered rs p dec) r 0 in
+        t ≡ leftBy (at + q) x s sp (storeWaits chip) → rs' ≡ pointerSet (lowered rs p dec) inc p (up at 1) → m' ≡ bytesStored (at + q) x m
+        → Leaves (stOf k r p q dec inc m) (cored rs' (stood pc (t .sp) (t .sreg) (t .busy) i v) chip) m'
+    st-leaves p q dec inc e f g = rw (e, f, g) (leaves-by (stores p q dec inc))

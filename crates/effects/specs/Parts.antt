@@ -13,6 +13,7 @@ use Rattle.cores.specs.Lent.{holding, lent}
 use Rattle.cores.specs.Transfer.{dataOf, pointedOf}
 use Rattle.registers.specs.Registers.{parted}
 use Rattle.effects.specs.declared.Step.{Step}
+use Rattle.effects.specs.declared.transfer.Left.{Left}
 
 abbrev pub stood : ℕ → ℕ → ℕ → ℕ → Bool → Bool → Step
 stood pc sp s busy inhibit service = record { pc = pc; sp = sp; sreg = s; busy = busy; inhibit = inhibit; «in_service» = service }
@@ -35,6 +36,9 @@ spStored at v sp = pick (eqb at 0x3F) sp (pick (eqb at 0x3E) (v * 256 + sp % 256
 
 abbrev pub bytesStored : ℕ → ℕ → List ℕ → List ℕ
 bytesStored at v m = pick (eqb at 0x3F) m (pick (eqb at 0x3E) m (pick (eqb at 0x3D) m (set m at v)))
+
+abbrev pub leftBy : ℕ → ℕ → ℕ → ℕ → ℕ → Left
+leftBy at v s sp busy = record { sreg = sregStored at v s; sp = spStored at v sp; busy = busy }
 
 -- a pointer made so, where on
 abbrev pub pointerSet : List ℕ → Bool → ℕ → ℕ → List ℕ

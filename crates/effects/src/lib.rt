@@ -1,5 +1,7 @@
 // An instruction carried out on lent registers, with the rest of its core as numbers: what `tick::carry_out` does to an executed instruction, without a core that is copied.
-use cores::pointer;
+use cores::pointer::X;
+use cores::pointer::Y;
+use cores::pointer::Z;
 use forms::fields::*;
 use forms::form::*;
 ghost use mathlib.Core.Path.{_≡_};
@@ -23,6 +25,7 @@ use stack::pop_word;
 use stack::push_word;
 use transfer::get_data_space;
 use transfer::ld;
+use transfer::leaves;
 use transfer::lpm;
 pub use transfer::pointed;
 use transfer::set_data_space;
@@ -55,338 +58,169 @@ pub fn effect(
     ensures { λ z. ⌜ Leaves (effectOf (executed decodeOf (cored (now (regs .entry)) (stood pc0 sp0 sreg0 0 inhibit0 in_service0) chip) (instructionOf form opcode (programWordOf (now (program .entry)) pc0)) (now (program .entry)) (now («data» .entry)))) (cored (now (regs .exit)) z chip) (now («data» .exit)) ⌝ }
 {
     let mut pc = pc0;
-    let mut sp = sp0;
-    let mut sreg = sreg0;
-    let mut busy: u8 = 0;
+    let mut left = leaves(sreg0, sp0, 0);
     let mut inhibit = inhibit0;
     let mut in_service = in_service0;
     match form {
         // Change of Flow Instructions
         BRBC => {
-            let taken = flag_is(sreg, b3(opcode), false);
+            let taken = flag_is(sreg0, b3(opcode), false);
             pc = hop(taken, pc, alu::signed(k7(opcode)));
-            busy = taken as u8;
+            left.busy = taken as u8;
         }
         BRBS => {
-            let taken = flag_is(sreg, b3(opcode), true);
+            let taken = flag_is(sreg0, b3(opcode), true);
             pc = hop(taken, pc, alu::signed(k7(opcode)));
-            busy = taken as u8;
+            left.busy = taken as u8;
         }
         CALL => {
-            sp = push_word(sp, std::num::wrapping_add_u16(pc, 1), data);
+            left.sp = push_word(sp0, std::num::wrapping_add_u16(pc, 1), data);
             pc = (k22(opcode, memory::get_progmem(program, pc as u32)) % 65536) as u16;
-            busy = 2;
+            left.busy = 2;
         }
         CPSE => {
             let equal = memory::read(regs, d5(opcode) as usize)
                 == memory::read(regs, r5(opcode) as usize);
-            busy = words_over(equal, memory::get_progmem(program, pc as u32));
-            pc = std::num::wrapping_add_u16(pc, busy as u16);
+            left.busy = words_over(equal, memory::get_progmem(program, pc as u32));
+            pc = std::num::wrapping_add_u16(pc, left.busy as u16);
         }
         ICALL => {
-            sp = push_word(sp, pc, data);
-            pc = memory::read_word(regs, pointer::Z as usize);
-            busy = 1;
+            left.sp = push_word(sp0, pc, data);
+            pc = memory::read_word(regs, Z as usize);
+            left.busy = 1;
         }
         IJMP => {
-            pc = memory::read_word(regs, pointer::Z as usize);
-            busy = 1;
+            pc = memory::read_word(regs, Z as usize);
+            left.busy = 1;
         }
         JMP => {
             pc = (k22(opcode, memory::get_progmem(program, pc as u32)) % 65536) as u16;
-            busy = 2;
+            left.busy = 2;
         }
         RCALL => {
-            sp = push_word(sp, pc, data);
+            left.sp = push_word(sp0, pc, data);
             pc = std::num::wrapping_add_u16(pc, k12(opcode));
-            busy = 1;
+            left.busy = 1;
         }
         RET => {
-            pc = pop_word(sp, data);
-            sp = std::num::wrapping_add_u16(sp, 2);
-            busy = 3;
+            pc = pop_word(sp0, data);
+            left.sp = std::num::wrapping_add_u16(sp0, 2);
+            left.busy = 3;
         }
         RETI => {
-            pc = pop_word(sp, data);
-            sp = std::num::wrapping_add_u16(sp, 2);
-            busy = 3;
+            pc = pop_word(sp0, data);
+            left.sp = std::num::wrapping_add_u16(sp0, 2);
+            left.busy = 3;
             in_service = false;
             inhibit = true;
         }
         RJMP => {
             pc = std::num::wrapping_add_u16(pc, k12(opcode));
-            busy = 1;
+            left.busy = 1;
         }
         SBIC => {
-            busy = words_over(
-                data_bit_is(data, A5(opcode), b3(opcode), false),
-                memory::get_progmem(program, pc as u32),
-            );
-            pc = std::num::wrapping_add_u16(pc, busy as u16);
+            let taken = data_bit_is(data, A5(opcode), b3(opcode), false);
+            left.busy = words_over(taken, memory::get_progmem(program, pc as u32));
+            pc = std::num::wrapping_add_u16(pc, left.busy as u16);
         }
         SBIS => {
-            busy = words_over(
-                data_bit_is(data, A5(opcode), b3(opcode), true),
-                memory::get_progmem(program, pc as u32),
-            );
-            pc = std::num::wrapping_add_u16(pc, busy as u16);
+            let taken = data_bit_is(data, A5(opcode), b3(opcode), true);
+            left.busy = words_over(taken, memory::get_progmem(program, pc as u32));
+            pc = std::num::wrapping_add_u16(pc, left.busy as u16);
         }
         SBRC => {
-            busy = words_over(
-                register_bit_is(regs, d5(opcode), b3(opcode), false),
-                memory::get_progmem(program, pc as u32),
-            );
-            pc = std::num::wrapping_add_u16(pc, busy as u16);
+            let taken = register_bit_is(regs, d5(opcode), b3(opcode), false);
+            left.busy = words_over(taken, memory::get_progmem(program, pc as u32));
+            pc = std::num::wrapping_add_u16(pc, left.busy as u16);
         }
         SBRS => {
-            busy = words_over(
-                register_bit_is(regs, d5(opcode), b3(opcode), true),
-                memory::get_progmem(program, pc as u32),
-            );
-            pc = std::num::wrapping_add_u16(pc, busy as u16);
+            let taken = register_bit_is(regs, d5(opcode), b3(opcode), true);
+            left.busy = words_over(taken, memory::get_progmem(program, pc as u32));
+            pc = std::num::wrapping_add_u16(pc, left.busy as u16);
         }
         // Data Transfer Instructions
-        IN => memory::write(
-            regs,
-            d5(opcode) as usize,
-            get_data_space(A6(opcode) as usize, sreg, sp, data),
-        ),
-        LDX => {
-            ld(
-                regs,
-                d5(opcode),
-                pointer::X,
-                0,
-                false,
-                false,
-                sreg,
-                sp,
-                data,
-            );
-            busy = rule::load_waits(chip);
+        IN => {
+            let value = get_data_space(A6(opcode) as usize, sreg0, sp0, data);
+            memory::write(regs, d5(opcode) as usize, value);
         }
-        LDXinc => {
-            ld(regs, d5(opcode), pointer::X, 0, false, true, sreg, sp, data);
-            busy = rule::load_waits(chip);
-        }
-        LDXdec => {
-            ld(regs, d5(opcode), pointer::X, 0, true, false, sreg, sp, data);
-            busy = rule::load_waits(chip);
-        }
-        LDYinc => {
-            ld(regs, d5(opcode), pointer::Y, 0, false, true, sreg, sp, data);
-            busy = rule::load_waits(chip);
-        }
-        LDYdec => {
-            ld(regs, d5(opcode), pointer::Y, 0, true, false, sreg, sp, data);
-            busy = rule::load_waits(chip);
-        }
-        LDZinc => {
-            ld(regs, d5(opcode), pointer::Z, 0, false, true, sreg, sp, data);
-            busy = rule::load_waits(chip);
-        }
-        LDZdec => {
-            ld(regs, d5(opcode), pointer::Z, 0, true, false, sreg, sp, data);
-            busy = rule::load_waits(chip);
-        }
+        LDX => left.busy = ld(regs, d5(opcode), X, 0, false, false, sreg0, sp0, chip, data),
+        LDXinc => left.busy = ld(regs, d5(opcode), X, 0, false, true, sreg0, sp0, chip, data),
+        LDXdec => left.busy = ld(regs, d5(opcode), X, 0, true, false, sreg0, sp0, chip, data),
+        LDYinc => left.busy = ld(regs, d5(opcode), Y, 0, false, true, sreg0, sp0, chip, data),
+        LDYdec => left.busy = ld(regs, d5(opcode), Y, 0, true, false, sreg0, sp0, chip, data),
+        LDZinc => left.busy = ld(regs, d5(opcode), Z, 0, false, true, sreg0, sp0, chip, data),
+        LDZdec => left.busy = ld(regs, d5(opcode), Z, 0, true, false, sreg0, sp0, chip, data),
         LDDY => {
-            ld(
-                regs,
-                d5(opcode),
-                pointer::Y,
-                q6(opcode),
-                false,
-                false,
-                sreg,
-                sp,
-                data,
-            );
-            busy = rule::load_waits(chip);
+            let q = q6(opcode);
+            left.busy = ld(regs, d5(opcode), Y, q, false, false, sreg0, sp0, chip, data);
         }
         LDDZ => {
-            ld(
-                regs,
-                d5(opcode),
-                pointer::Z,
-                q6(opcode),
-                false,
-                false,
-                sreg,
-                sp,
-                data,
-            );
-            busy = rule::load_waits(chip);
+            let q = q6(opcode);
+            left.busy = ld(regs, d5(opcode), Z, q, false, false, sreg0, sp0, chip, data);
         }
         LDS => {
-            memory::write(
-                regs,
-                d5(opcode) as usize,
-                get_data_space(
-                    memory::get_progmem(program, pc as u32) as usize,
-                    sreg,
-                    sp,
-                    data,
-                ),
-            );
+            let at = memory::get_progmem(program, pc as u32);
+            let value = get_data_space(at as usize, sreg0, sp0, data);
+            memory::write(regs, d5(opcode) as usize, value);
+            left.busy = 2;
             pc = std::num::wrapping_add_u16(pc, 1);
-            busy = 2;
         }
-        LPM => {
-            lpm(regs, 0, false, program);
-            busy = 2;
-        }
-        LPMZ => {
-            lpm(regs, d5(opcode), false, program);
-            busy = 2;
-        }
-        LPMZinc => {
-            lpm(regs, d5(opcode), true, program);
-            busy = 2;
-        }
+        LPM => left.busy = lpm(regs, 0, false, program),
+        LPMZ => left.busy = lpm(regs, d5(opcode), false, program),
+        LPMZinc => left.busy = lpm(regs, d5(opcode), true, program),
         OUT => {
-            let stored = set_data_space(
-                A6(opcode) as usize,
-                memory::read(regs, d5(opcode) as usize),
-                sreg,
-                sp,
-                data,
-            );
-            sreg = stored.sreg;
-            sp = stored.sp;
+            let value = memory::read(regs, d5(opcode) as usize);
+            left = set_data_space(A6(opcode) as usize, value, sreg0, sp0, data);
         }
         POP => {
-            sp = std::num::wrapping_add_u16(sp, 1);
-            memory::write(
-                regs,
-                d5(opcode) as usize,
-                get_data_space(sp as usize, sreg, sp, data),
-            );
-            busy = 1;
+            left.sp = std::num::wrapping_add_u16(sp0, 1);
+            left.busy = 1;
+            let value = get_data_space(left.sp as usize, sreg0, left.sp, data);
+            memory::write(regs, d5(opcode) as usize, value);
         }
         PUSH => {
-            let stored = set_data_space(
-                sp as usize,
-                memory::read(regs, d5(opcode) as usize),
-                sreg,
-                sp,
-                data,
-            );
-            sreg = stored.sreg;
-            sp = std::num::wrapping_sub_u16(stored.sp, 1);
+            let value = memory::read(regs, d5(opcode) as usize);
+            left = set_data_space(sp0 as usize, value, sreg0, sp0, data);
+            left.sp = std::num::wrapping_sub_u16(left.sp, 1);
         }
-        STX => {
-            let stored = st(
-                regs,
-                d5(opcode),
-                pointer::X,
-                0,
-                false,
-                false,
-                sreg,
-                sp,
-                data,
-            );
-            sreg = stored.sreg;
-            sp = stored.sp;
-            busy = rule::store_waits(chip);
-        }
-        STXdec => {
-            let stored = st(regs, d5(opcode), pointer::X, 0, true, false, sreg, sp, data);
-            sreg = stored.sreg;
-            sp = stored.sp;
-            busy = rule::store_waits(chip);
-        }
-        STXinc => {
-            let stored = st(regs, d5(opcode), pointer::X, 0, false, true, sreg, sp, data);
-            sreg = stored.sreg;
-            sp = stored.sp;
-            busy = rule::store_waits(chip);
-        }
-        STYdec => {
-            let stored = st(regs, d5(opcode), pointer::Y, 0, true, false, sreg, sp, data);
-            sreg = stored.sreg;
-            sp = stored.sp;
-            busy = rule::store_waits(chip);
-        }
-        STYinc => {
-            let stored = st(regs, d5(opcode), pointer::Y, 0, false, true, sreg, sp, data);
-            sreg = stored.sreg;
-            sp = stored.sp;
-            busy = rule::store_waits(chip);
-        }
-        STZdec => {
-            let stored = st(regs, d5(opcode), pointer::Z, 0, true, false, sreg, sp, data);
-            sreg = stored.sreg;
-            sp = stored.sp;
-            busy = rule::store_waits(chip);
-        }
-        STZinc => {
-            let stored = st(regs, d5(opcode), pointer::Z, 0, false, true, sreg, sp, data);
-            sreg = stored.sreg;
-            sp = stored.sp;
-            busy = rule::store_waits(chip);
-        }
+        STX => left = st(regs, d5(opcode), X, 0, false, false, sreg0, sp0, chip, data),
+        STXdec => left = st(regs, d5(opcode), X, 0, true, false, sreg0, sp0, chip, data),
+        STXinc => left = st(regs, d5(opcode), X, 0, false, true, sreg0, sp0, chip, data),
+        STYdec => left = st(regs, d5(opcode), Y, 0, true, false, sreg0, sp0, chip, data),
+        STYinc => left = st(regs, d5(opcode), Y, 0, false, true, sreg0, sp0, chip, data),
+        STZdec => left = st(regs, d5(opcode), Z, 0, true, false, sreg0, sp0, chip, data),
+        STZinc => left = st(regs, d5(opcode), Z, 0, false, true, sreg0, sp0, chip, data),
         STDY => {
-            let stored = st(
-                regs,
-                d5(opcode),
-                pointer::Y,
-                q6(opcode),
-                false,
-                false,
-                sreg,
-                sp,
-                data,
-            );
-            sreg = stored.sreg;
-            sp = stored.sp;
-            busy = rule::store_waits(chip);
+            let q = q6(opcode);
+            left = st(regs, d5(opcode), Y, q, false, false, sreg0, sp0, chip, data);
         }
         STDZ => {
-            let stored = st(
-                regs,
-                d5(opcode),
-                pointer::Z,
-                q6(opcode),
-                false,
-                false,
-                sreg,
-                sp,
-                data,
-            );
-            sreg = stored.sreg;
-            sp = stored.sp;
-            busy = rule::store_waits(chip);
+            let q = q6(opcode);
+            left = st(regs, d5(opcode), Z, q, false, false, sreg0, sp0, chip, data);
         }
         STS => {
-            let stored = set_data_space(
-                memory::get_progmem(program, pc as u32) as usize,
-                memory::read(regs, d5(opcode) as usize),
-                sreg,
-                sp,
-                data,
-            );
-            sreg = stored.sreg;
-            sp = stored.sp;
+            let at = memory::get_progmem(program, pc as u32);
+            let value = memory::read(regs, d5(opcode) as usize);
+            left = set_data_space(at as usize, value, sreg0, sp0, data);
+            left.busy = 1;
             pc = std::num::wrapping_add_u16(pc, 1);
-            busy = 1;
         }
         // Bit and Bit-Test Instructions
         CBI => memory::set_bit(data, A5(opcode) as usize, b3(opcode), false),
         SBI => memory::set_bit(data, A5(opcode) as usize, b3(opcode), true),
         // The register-only list; MCU control instructions and undefined words change nothing.
         _ => {
-            let made = registers::change(form, opcode, regs, sreg, inhibit, chip);
-            sreg = made.sreg;
-            busy = made.busy;
+            let made = registers::change(form, opcode, regs, sreg0, inhibit0, chip);
+            left.sreg = made.sreg;
+            left.busy = made.busy;
             inhibit = made.inhibit;
         }
     }
     Step {
         pc,
-        sp,
-        sreg,
-        busy,
+        sp: left.sp,
+        sreg: left.sreg,
+        busy: left.busy,
         inhibit,
         in_service,
     }

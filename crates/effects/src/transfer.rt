@@ -6,13 +6,21 @@ ghost use lib.ListN.{getD, set};
 ghost use Prim.Native.Nat.{_+_};
 ghost use Rattle.basis.specs.Bit.{up};
 ghost use Rattle.memory.specs.Memory.{wordOf};
+ghost use Rattle.rule.specs.Rule.{loadWaits, storeWaits};
 ghost use Rattle.cores.specs.Transfer.{dataOf};
-ghost use Rattle.effects.specs.Parts.{seen, sregStored, spStored, bytesStored, pointerSet, pointedAt, lowered, loaded};
+ghost use Rattle.effects.specs.Parts.{seen, leftBy, bytesStored, pointerSet, pointedAt, lowered, loaded};
 
-// SREG and SP behind a store, which may be to them.
-pub(crate) struct Stored {
+// SREG and SP behind a store, which may be to them, and the ticks to wait.
+pub(crate) struct Left {
     pub sreg: u8,
     pub sp: u16,
+    pub busy: u8,
+}
+
+pub(crate) fn leaves(sreg: u8, sp: u16, busy: u8) -> Left
+    ensures { λ l. ⌜ l ≡ record { sreg = sreg; sp = sp; busy = busy } ⌝ }
+{
+    Left { sreg, sp, busy }
 }
 
 pub(crate) fn get_data_space(address: usize, sreg: u8, sp: u16, data: &[u8]) -> u8
@@ -26,29 +34,17 @@ pub(crate) fn get_data_space(address: usize, sreg: u8, sp: u16, data: &[u8]) -> 
     }
 }
 
-pub(crate) fn set_data_space(
-    address: usize,
-    value: u8,
-    sreg: u8,
-    sp: u16,
-    data: &mut [u8],
-) -> Stored
-    ensures { λ s. ⌜ s ≡ record { sreg = sregStored address value sreg; sp = spStored address value sp } ⌝ }
+pub(crate) fn set_data_space(address: usize, value: u8, sreg: u8, sp: u16, data: &mut [u8]) -> Left
+    ensures { λ s. ⌜ s ≡ leftBy address value sreg sp 0 ⌝ }
     ensures { λ _. ⌜ now («data» .exit) ≡ bytesStored address value (now («data» .entry)) ⌝ }
 {
     match address {
-        0x3F => Stored { sreg: value, sp },
-        0x3E => Stored {
-            sreg,
-            sp: value as u16 * 256 + sp % 256,
-        },
-        0x3D => Stored {
-            sreg,
-            sp: sp / 256 * 256 + value as u16,
-        },
+        0x3F => leaves(value, sp, 0),
+        0x3E => leaves(sreg, value as u16 * 256 + sp % 256, 0),
+        0x3D => leaves(sreg, sp / 256 * 256 + value as u16, 0),
         _ => {
             memory::write(data, address, value);
-            Stored { sreg, sp }
+            leaves(sreg, sp, 0)
         }
     }
 }
@@ -82,8 +78,10 @@ pub(crate) fn ld(
     inc: bool,
     sreg: u8,
     sp: u16,
+    chip: bool,
     data: &[u8],
-)
+) -> u8
+    ensures { λ n. ⌜ n ≡ loadWaits chip ⌝ }
     ensures { λ _. ⌜ now (regs .exit) ≡ loaded (now (regs .entry)) d pointer q dec inc sreg sp (now («data» .entry)) ⌝ }
 {
     let address = pointed(regs, pointer, dec);
@@ -91,6 +89,7 @@ pub(crate) fn ld(
     let value = get_data_space(address as usize + q as usize, sreg, sp, data);
     memory::write(regs, d as usize, value);
     set_word_if(regs, inc, pointer, std::num::wrapping_add_u16(address, 1));
+    rule::load_waits(chip)
 }
 
 pub(crate) fn st(
@@ -102,9 +101,10 @@ pub(crate) fn st(
     inc: bool,
     sreg: u8,
     sp: u16,
+    chip: bool,
     data: &mut [u8],
-) -> Stored
-    ensures { λ s. ⌜ s ≡ (let at = pointedAt (now (regs .entry)) pointer dec + q in let v = getD (lowered (now (regs .entry)) pointer dec) r 0 in record { sreg = sregStored at v sreg; sp = spStored at v sp }) ⌝ }
+) -> Left
+    ensures { λ s. ⌜ s ≡ leftBy (pointedAt (now (regs .entry)) pointer dec + q) (getD (lowered (now (regs .entry)) pointer dec) r 0) sreg sp (storeWaits chip) ⌝ }
     ensures { λ _. ⌜ now (regs .exit) ≡ pointerSet (lowered (now (regs .entry)) pointer dec) inc pointer (up (pointedAt (now (regs .entry)) pointer dec) 1) ⌝ }
     ensures { λ _. ⌜ now («data» .exit) ≡ bytesStored (pointedAt (now (regs .entry)) pointer dec + q) (getD (lowered (now (regs .entry)) pointer dec) r 0) (now («data» .entry)) ⌝ }
 {
@@ -118,10 +118,11 @@ pub(crate) fn st(
         data,
     );
     set_word_if(regs, inc, pointer, std::num::wrapping_add_u16(address, 1));
-    stored
+    leaves(stored.sreg, stored.sp, rule::store_waits(chip))
 }
 
-pub(crate) fn lpm(regs: &mut [u8], d: u8, inc: bool, program: &[u8])
+pub(crate) fn lpm(regs: &mut [u8], d: u8, inc: bool, program: &[u8]) -> u8
+    ensures { λ n. ⌜ n ≡ 2 ⌝ }
     ensures { λ _. ⌜ now (regs .exit) ≡ (let at = wordOf (now (regs .entry)) 30 in pointerSet (set (now (regs .entry)) d (getD (now (program .entry)) at 0)) inc 30 (up at 1)) ⌝ }
 {
     let address = memory::read_word(regs, pointer::Z as usize);
@@ -132,4 +133,5 @@ pub(crate) fn lpm(regs: &mut [u8], d: u8, inc: bool, program: &[u8])
         pointer::Z,
         std::num::wrapping_add_u16(address, 1),
     );
+    2
 }
