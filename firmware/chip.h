@@ -1,4 +1,4 @@
-/* What both images have from the linker script and the chip. */
+/* What the images have from the linker script and the chip. */
 #ifndef CHIP_H
 #define CHIP_H
 

@@ -2,11 +2,8 @@
 #ifndef HEAT_H
 #define HEAT_H
 
+#include "flash.h"
 #include <stdint.h>
-
-#ifndef __AVR__
-#define __flash /* on the chip the log is read from program memory, by LPM */
-#endif
 
 #define HOURS 8
 

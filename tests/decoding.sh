@@ -15,7 +15,7 @@ quietly 'rt check decoding' rt check decoding
 LC_ALL=C awk 'BEGIN { for (w = 0; w < 65536; w++) printf "%c%c", w % 256, w / 256 }' >"$work/all_words"
 decoded_alike "$work/all_words" 192
 note $? 'crates/decoding on every word: 32 are LDS, 32 STS, 64 JMP and 64 CALL'
-decoded_alike firmware/heat_index.bin 20
-note $? 'crates/decoding on firmware/heat_index.bin'
-decoded_alike firmware/heat_index_timer.bin 25
-note $? 'crates/decoding on firmware/heat_index_timer.bin'
+for image in 'heat_index 20' 'heat_index_timer 25' 'crc 13' 'sort 11'; do
+    decoded_alike "firmware/${image% *}.bin" "${image#* }"
+    note $? "crates/decoding on firmware/${image% *}.bin"
+done

@@ -235,7 +235,7 @@ for case in tests/hex/*.hex; do
 done
 longest_file
 note $? 'unhex on the longest file'
-for image in heat_index_timer heat_index; do
+for image in heat_index_timer crc sort heat_index; do
     as_the_bin $image
     note $? "unhex on firmware/$image.hex"
 done

@@ -106,7 +106,7 @@ pub fn the_old_fault_sets_14_00_against_13_00(rule: Rule) -> Verdict {
     Ok(format!("{PLACES} runs"))
 }
 
-fn readings(random: &mut Random, lowest: i16, values: u32) -> Vec<Reading> {
+pub fn readings(random: &mut Random, lowest: i16, values: u32) -> Vec<Reading> {
     let count = random.below(9);
     (0..count).map(|_| (NOON + HOUR * random.below(12), lowest + random.below(values) as i16)).collect()
 }

@@ -12,12 +12,19 @@ const SREG: usize = 32;
 const MOST_TICKS: u32 = 1_000_000;
 
 /// What stands at the end of a run.
-#[derive(Clone, PartialEq, Debug)]
 pub struct Outcome {
     pub report: Report,
     pub snapshot: [u8; avr_core::SNAPSHOT_BYTES],
     pub entries: u16,
     pub overflows: u16,
+    data: Vec<u8>,
+}
+
+impl Outcome {
+    /// So many bytes from where an image stores its result.
+    pub fn stored(&self, bytes: usize) -> &[u8] {
+        &self.data[REPORT_PLACE..][..bytes]
+    }
 }
 
 #[derive(Clone)]
@@ -85,9 +92,9 @@ impl<'a> Machine<'a> {
         Err(format!("no BREAK in {MOST_TICKS} ticks"))
     }
 
-    fn outcome(&self) -> Outcome {
+    fn outcome(self) -> Outcome {
         let report = self.data[REPORT_PLACE..][..REPORT_BYTES].try_into().expect("that length");
         let overflows = u16::from_le_bytes([self.data[OVERFLOWS_PLACE], self.data[OVERFLOWS_PLACE + 1]]);
-        Outcome { report, snapshot: self.snapshot, entries: self.entries, overflows }
+        Outcome { report, snapshot: self.snapshot, entries: self.entries, overflows, data: self.data }
     }
 }
