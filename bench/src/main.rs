@@ -1,9 +1,10 @@
 //! The original (a plain release build), the port, and where they are there the port before a change and simavr, over the works of work.rs, in one program.
 //! Without words: ticks a second, in turns. `names`: a line for each work and machine. `passes WORK MACHINE TIMES`: some passes of one of them TIMES times, for
-//! a program around this one that counts instructions; prints the ticks.
+//! a program around this one that counts instructions; prints the ticks. `growth` and `once MACHINE TICKS`: see growth.rs.
 
 #[cfg(feature = "before")]
 mod before;
+mod growth;
 mod original;
 mod port;
 #[cfg(feature = "simavr")]
@@ -95,8 +96,13 @@ fn count(work: &Work, name: &str, times: u32) {
     println!("{}", passes * ticks);
 }
 
+/// The loop that growth.rs runs.
+fn endless(works: &[Work]) -> &Work {
+    works.iter().find(|work| work.name == "add").expect("it is one of them")
+}
+
 fn refuse() -> ! {
-    eprintln!("bench, bench names, or bench passes WORK MACHINE TIMES");
+    eprintln!("bench, bench names, bench passes WORK MACHINE TIMES, bench growth, or bench once MACHINE TICKS");
     exit(2)
 }
 
@@ -110,6 +116,8 @@ fn main() {
             let work = works.iter().find(|other| other.name == work).unwrap_or_else(|| refuse());
             count(work, machine, times.parse().unwrap_or_else(|_| refuse()))
         }
+        ["growth"] => growth::time(endless(&works)),
+        ["once", machine, ticks] => growth::once(endless(&works), machine, ticks.parse().unwrap_or_else(|_| refuse())),
         _ => refuse(),
     }
 }

@@ -30,6 +30,8 @@ pub fn works() -> Vec<Work> {
     vec![
         image("heat_index", "no offer", include_bytes!("../../firmware/heat_index.bin"), None),
         image("heat_index_timer", "its vector offered at every tick", include_bytes!("../../firmware/heat_index_timer.bin"), Some(16)),
+        image("crc", "no offer", include_bytes!("../../firmware/crc.bin"), None),
+        image("sort", "no offer", include_bytes!("../../firmware/sort.bin"), None),
         looped("add", "1,024 times ADD R16,R17 and RJMP", &[ldi(16, 0x12), ldi(17, 0x35)], &[ADD_R16_R17].repeat(1024), 1024),
         looped(
             "cp_cpc",
