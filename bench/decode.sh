@@ -10,13 +10,13 @@ find_words() { # the images, and one of every word
     [ "$(wc -c <target/bench/words/all)" = 131072 ] || not_run "awk writes no zero bytes"
 }
 
-find_program() { # as rt runs it: off x86-64 with the loader and the library of the kit
+find_program() { # NAME: as rt runs it: off x86-64 with the loader and the library of the kit
     needs rt
-    rt check decoding >&2 || not_run "crates/decoding is not proved"
-    program=target/bin/decoding
+    rt check "$1" >&2 || not_run "crates/$1 is not proved"
+    program=target/bin/$1
     if [ "$(uname -m)" != x86_64 ]; then
         kit=${RATTLE_HOME:-$(dirname "$(dirname "$(readlink -f "$(command -v rt)")")")}/on/$(uname -m)/toolchain/lib
-        program="$kit/ld-linux-x86-64.so.2 --library-path $kit target/bin/decoding"
+        program="$kit/ld-linux-x86-64.so.2 --library-path $kit target/bin/$1"
     fi
 }
 
@@ -25,16 +25,19 @@ input() { # WAY TIMES WORDS: what the program reads
     cat "target/bench/words/$3"
 }
 
-nanoseconds() { # WAY TIMES WORDS: how long the program takes, by the clock
-    input "$@" >target/bench/input
+nanoseconds() { # how long the program takes on target/bench/input, by the clock
     start=$(date +%s%N)
     $program <target/bench/input >/dev/null
     echo $(($(date +%s%N) - start))
 }
 
-executed() { # WAY TIMES WORDS: the processor's instructions that it takes
-    input "$@" >target/bench/input
+executed() { # the processor's instructions that it takes on it
     counted $program <target/bench/input | cut -f 1
+}
+
+of_words() { # MEASURE WAY TIMES WORDS
+    input "$2" "$3" "$4" >target/bench/input
+    "$1"
 }
 
 slopes() { # MEASURE TIMES: a line for each way and its words, by that measure; an image of so many words more times over
@@ -43,7 +46,7 @@ slopes() { # MEASURE TIMES: a line for each way and its words, by that measure; 
         for way in 0 1 2 3; do
             times=$(($2 * 32768 / pairs))
             [ "$way" != 2 ] || times=$((times / 10 + 1))
-            printf '%s\t%s\t%s\t%s\n' "$words" "$way" "$("$1" "$way" "$times" "$words")" "$("$1" "$way" $((times * 2)) "$words") $((times * pairs * 2))"
+            printf '%s\t%s\t%s\t%s\n' "$words" "$way" "$(of_words "$1" "$way" "$times" "$words")" "$(of_words "$1" "$way" $((times * 2)) "$words") $((times * pairs * 2))"
         done
     done
 }
@@ -66,7 +69,7 @@ medians() { # UNIT: from those lines, of any number of rounds
 
 measure_decode() {
     find_words
-    find_program
+    find_program decoding
     if [ "$(uname -m)" = x86_64 ]; then
         echo "nanoseconds a decode, by the clock, the loop around it included; median of $rounds rounds, in turns"
         for round in $(seq "$rounds"); do slopes nanoseconds 100; done | medians ns

@@ -1,0 +1,2 @@
+-- `After`: so many ticks, one after another.
+pub mod After
