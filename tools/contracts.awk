@@ -5,6 +5,8 @@ BEGIN {
     # D is a definition over what was there before the call, r the result, x a buffer before and x′ after it
     rules["r ≡ D"] = rules["x′ ≡ D"] = "equation"
     rules["Leaves D r x′"] = "leaves"
+    rules["Leaves D (cored x′ r x) x′"] = "leaves-lent"
+    rules["Changes D x x x x x r x′"] = "changes"
     rules["Executes D r x′"] = "executes"
     rules["Ticks D r x′"] = "ticks"
     rules["Ticks D (inPlace r x′) x′"] = "ticks-in-place"
@@ -16,6 +18,8 @@ BEGIN {
     # where what the forms are written in is defined
     homes["_≡_"] = "mathlib.Core.Path"
     homes["Leaves"] = "Rattle.cores.specs.State"
+    homes["cored"] = "Rattle.effects.specs.Parts"
+    homes["Changes"] = "Rattle.registers.specs.Registers"
     homes["Executes"] = "Rattle.execute.specs.Execute"
     homes["Ticks"] = homes["inPlace"] = "Rattle.tick.specs.Tick"
     homes["Runs"] = "Rattle.run.specs.Run"
@@ -66,12 +70,14 @@ function form(text, bound,    parts, count, at, found) {
     return found
 }
 
-function letter(part, bound,    two) {
+function letter(part, bound,    two, three) {
     if (part == bound && bound != "_") return "r"
     if (part ~ /^[A-Za-z_][A-Za-z0-9_]*$/) return "x"
     if (part ~ /^[A-Za-z_][A-Za-z0-9_]*′$/) return "x′"
     if (sub(/^\(inPlace /, "", part) && sub(/\)$/, "", part) && split(part, two, " ") == 2)
         return "(inPlace " letter(two[1], bound) " " letter(two[2], bound) ")"
+    if (sub(/^\(cored /, "", part) && sub(/\)$/, "", part) && split(part, three, " ") == 3)
+        return "(cored " letter(three[1], bound) " " letter(three[2], bound) " " letter(three[3], bound) ")"
     return "?"
 }
 

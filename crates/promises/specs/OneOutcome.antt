@@ -1,9 +1,14 @@
--- 01: "Prove that two outcomes meeting one contract are the same." Every public function's contract is one of these ten; docs/CONTRACTS.md says which is whose.
+-- 01: "Prove that two outcomes meeting one contract are the same." Every public function's contract is one of these twelve; docs/CONTRACTS.md says which is whose.
 use mathlib.Core.Path.{_≡_}
+use mathlib.Core.Bool.{Bool}
 use mathlib.Core.List.{List}
 use Prim.Native.Nat.{ℕ}
 use Rattle.cores.specs.declared.Core.{Core}
 use Rattle.cores.specs.State.{Out, Leaves}
+use Rattle.registers.specs.declared.Changed.{Changed}
+use Rattle.registers.specs.Registers.{Changes}
+use Rattle.effects.specs.declared.Step.{Step}
+use Rattle.effects.specs.Parts.{cored}
 use Rattle.tick.specs.declared.Answer.{Answer}
 use Rattle.tick.specs.declared.Ticked.{Ticked}
 use Rattle.tick.specs.Tick.{Tick, Ticks, inPlace}
@@ -22,6 +27,10 @@ pub record OneOutcome : Type 1 where
   pub equation : {A : Type 0} (d : A) → One (λ (x : A). x ≡ d)
   -- a core, and the bytes of data
   pub leaves : (o : Out) → One (λ (x : Core × List ℕ). Leaves o (x .0) (x .1))
+  -- lent registers, the rest of a core, and the bytes of data
+  pub leaves-lent : (o : Out) (chip : Bool) → One (λ (x : List ℕ × Step × List ℕ). Leaves o (cored (x .0) (x .1) chip) (x .2))
+  -- what the register-only list changes of a core, and lent registers
+  pub changes : (f w : ℕ) (rs : List ℕ) (s : ℕ) (inhibit chip : Bool) → One (λ (x : Changed × List ℕ). Changes f w rs s inhibit chip (x .0) (x .1))
   -- answer, core and data, handed back or left in place
   pub ticks : (t : Tick) → One (λ (x : Ticked × List ℕ). Ticks t (x .0) (x .1))
   pub ticks-in-place : (t : Tick) → One (λ (x : Answer × Core × List ℕ). Ticks t (inPlace (x .0) (x .1)) (x .2))

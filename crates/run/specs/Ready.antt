@@ -32,8 +32,8 @@ abbrev pub Readies : ℕ → ℕ → List ℕ → ℕ → ℕ → List ℕ → L
 Readies f w rs pc sp p m b = f ≡ formOf w → pc < 65534 → hasWordOf p pc ≡ true → b ≡ true → Unrefused rs pc sp p m (instructionOf f w (programWordOf p pc))
 
 -- a form that is told, and is not UNDEF's 86: the next tick carries its instruction out, with inhibit clear
-abbrev pub Tells : List ℕ → ℕ → ℕ → ℕ → Bool → Bool → List ℕ → List ℕ → Bool → ℕ → Type 0
-Tells rs pc sp s inhibit service p m offered f =
+abbrev pub TellsForm : List ℕ → ℕ → ℕ → ℕ → Bool → Bool → List ℕ → List ℕ → Bool → ℕ → Type 0
+TellsForm rs pc sp s inhibit service p m offered f =
     (f ≡ 86 → ⊥) → (pc < 65533)
     × ((chip : Bool) (o : Offer) → offers o ≡ offered
     → let e = executed decodeOf (cored rs (stood (pc + 1) sp s 0 false service) chip) (instructionOf f (programWordOf p pc) (programWordOf p (pc + 1))) p m in

@@ -11,7 +11,7 @@ ghost use Rattle.basis.specs.Pick.{pick};
 ghost use Rattle.basis.specs.Bit.{bit};
 ghost use Prim.Native.Nat.{_+_, _<_};
 ghost use Rattle.memory.specs.Memory.{hasOf};
-ghost use Rattle.run.specs.Ready.{plainOf, Readies, Tells};
+ghost use Rattle.run.specs.Ready.{plainOf, Readies, TellsForm};
 
 // A byte of data that is neither SREG nor SP, nor anything else below 64.
 fn plain(address: usize, data: &[u8]) -> bool
@@ -131,7 +131,7 @@ pub(crate) fn tells(
     data: &[u8],
     offered: bool,
 ) -> u8
-    ensures { λ f. ⌜ Tells (now (regs .entry)) pc sp sreg inhibit in_service (now (program .entry)) (now («data» .entry)) offered f ⌝ }
+    ensures { λ f. ⌜ TellsForm (now (regs .entry)) pc sp sreg inhibit in_service (now (program .entry)) (now («data» .entry)) offered f ⌝ }
 {
     if is_due(offered, sreg, inhibit, in_service) {
         return UNDEF;
