@@ -1,4 +1,6 @@
 -- `Unroll`: one tick of a run. `Larger`: a larger budget changes nothing where the budget was not what stopped it. `Ticks`: a run is ticks one after another.
+-- `Waits`: a core that waits.
 pub mod Unroll
 pub mod Larger
 pub mod Ticks
+pub mod Waits
