@@ -1,6 +1,7 @@
 -- `Unroll`: one tick of a run. `Larger`: a larger budget changes nothing where the budget was not what stopped it. `Ticks`: a run is ticks one after another.
--- `Waits`: a core that waits.
+-- `Waits`: a core that waits. `Six`: the six bytes of a snapshot behind its registers.
 pub mod Unroll
 pub mod Larger
 pub mod Ticks
 pub mod Waits
+pub mod Six

@@ -7,6 +7,8 @@ ghost use Rattle.tick.specs.Tick.{numberOf};
 ghost use Rattle.run.specs.Run.{runOf, Runs};
 
 mod go;
+mod over;
+mod settling;
 
 // The answer is 24, 22, 23 or the refusal, by 01's numbers; `ticks` counts the ticks done.
 pub struct Ran {

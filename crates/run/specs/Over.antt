@@ -1,0 +1,38 @@
+-- Runs over a snapshot. s are the bytes of a snapshot, p is a program, m the bytes of data, o an offer, b a budget; s' and m' are what the code leaves of s and m.
+use mathlib.Core.Path.{_≡_}
+use mathlib.Core.Logic.{_⊎_}
+use mathlib.Core.Bool.{Bool}
+use mathlib.Core.List.{List}
+use Prim.Native.Nat.{ℕ, _-_, _≤_}
+use Rattle.cores.specs.declared.Core.{Core}
+use Rattle.tick.specs.Tick.{Tick, tickOf}
+use Rattle.tick.specs.declared.Offer.{Offer}
+use Rattle.tick.specs.declared.Answer.{Answer}
+use Rattle.tick.specs.declared.Answer.the-variants.{Ran}
+use Rattle.snapshot.specs.Snapshot.{readOf, writeOf}
+use Rattle.run.specs.Run.{Run, after, runOf}
+use Rattle.run.specs.Lent.{offers}
+
+-- the core that the bytes say, its tick and its run
+abbrev pub saidBy : List ℕ → Core
+saidBy s = readOf s .core
+
+abbrev pub tickOver : List ℕ → List ℕ → List ℕ → Offer → Tick
+tickOver s p m o = tickOf (saidBy s) p m o
+
+-- a whole tick
+pub record TickedOver (s p m : List ℕ) (o : Offer) (a : Answer) (s' m' : List ℕ) : Type 0 where
+  pub answer : a ≡ tickOver s p m o .answer
+  pub snapshot : s' ≡ writeOf (tickOver s p m o .core) s .bytes
+  pub bytes : m' ≡ tickOver s p m o .bytes
+
+-- the rest of a run that has done so many of its ticks
+abbrev pub restOver : ℕ → ℕ → List ℕ → List ℕ → List ℕ → Offer → Run
+restOver b done s p m o = after done (runOf (b - done) (saidBy s) p m o)
+
+-- the rest of the run from where a stretch ended is the rest from where it began
+pub record Stretches (s p m : List ℕ) (on : Bool) (at b done : ℕ) (s' m' : List ℕ) : Type 0 where
+  pub read : readOf s' .refusal ≡ 0
+  pub onward : at ≤ done
+  pub bounded : done ≤ b
+  pub rest : (o : Offer) → offers o ≡ on → restOver b at s p m o ≡ restOver b done s' p m' o

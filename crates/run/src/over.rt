@@ -1,0 +1,64 @@
+// Runs over a snapshot, changed where it lies: `go` takes the plain instructions, and what it leaves is a whole tick.
+use tick::Answer;
+use tick::Offer;
+use crate::go::go;
+use crate::settling::flags;
+use crate::settling::settle;
+use crate::settling::word_at;
+ghost use mathlib.Core.Path.{_≡_};
+ghost use Prim.Native.Nat.{_<_};
+ghost use Rattle.snapshot.specs.Snapshot.{readOf};
+ghost use Rattle.run.specs.Lent.{offers};
+ghost use Rattle.run.specs.Over.{TickedOver, Stretches};
+
+// The number of a tick's answer, and the ticks done.
+pub struct Over {
+    pub answer: u8,
+    pub ticks: u32,
+}
+
+const RAN: u8 = 18;
+
+fn offered(offer: Offer) -> bool
+    ensures { λ r. ⌜ r ≡ offers offer ⌝ }
+{
+    match offer {
+        Offer::Vector(_) => true,
+        Offer::Nothing => false,
+    }
+}
+
+// A whole tick.
+fn whole(snapshot: &mut [u8], program: &[u8], data: &mut [u8], offer: Offer) -> Answer
+    ensures { λ a. ⌜ TickedOver (now (snapshot .entry)) (now (program .entry)) (now («data» .entry)) offer a (now (snapshot .exit)) (now («data» .exit)) ⌝ }
+{
+    let read = snapshot::read(snapshot);
+    let plan = tick::decide(read.core, program, data, offer);
+    let next = tick::carry_out(read.core, plan, program, data);
+    snapshot::write(next, snapshot);
+    plan.answer()
+}
+
+// A stretch from the tick `at`, the core's waits before it: the ticks then done, at most the budget.
+fn stretch(snapshot: &mut [u8], program: &[u8], data: &mut [u8], on: bool, at: u32, budget: u32) -> u32
+    requires { ⌜ (readOf (now snapshot) .refusal ≡ 0) × (at < budget) ⌝ }
+    ensures { λ r. ⌜ Stretches (now (snapshot .entry)) (now (program .entry)) (now («data» .entry)) on at budget r (now (snapshot .exit)) (now («data» .exit)) ⌝ }
+{
+    let last = snapshot[37];
+    let pc = word_at(snapshot, 33);
+    let sp = word_at(snapshot, 35);
+    let sreg = snapshot[32];
+    let inhibit = last / 16 % 2 == 1;
+    let in_service = last / 8 % 2 == 1;
+    let chip = last / 4 % 2 == 1;
+    let begin = at as u64 + (last / 32) as u64;
+    let gone = go(&mut snapshot[..32], pc, sp, sreg, inhibit, in_service, chip, begin, program, data, on, budget);
+    let rest = flags(gone.inhibit, gone.in_service, chip);
+    if gone.at >= budget as u64 {
+        let busy = (gone.at - budget as u64) as u8;
+        settle(snapshot, gone.sreg, gone.pc, gone.sp, sp, busy * 32 + rest);
+        return budget;
+    }
+    settle(snapshot, gone.sreg, gone.pc, gone.sp, sp, rest);
+    gone.at as u32
+}
