@@ -3,7 +3,7 @@ use tick::Answer;
 use tick::Offer;
 use crate::go::go;
 use crate::settling::flags;
-use crate::settling::settle;
+use crate::settling::leave;
 use crate::settling::word_at;
 ghost use mathlib.Core.Path.{_≡_};
 ghost use Prim.Native.Nat.{_<_};
@@ -54,11 +54,5 @@ fn stretch(snapshot: &mut [u8], program: &[u8], data: &mut [u8], on: bool, at: u
     let begin = at as u64 + (last / 32) as u64;
     let gone = go(&mut snapshot[..32], pc, sp, sreg, inhibit, in_service, chip, begin, program, data, on, budget);
     let rest = flags(gone.inhibit, gone.in_service, chip);
-    if gone.at >= budget as u64 {
-        let busy = (gone.at - budget as u64) as u8;
-        settle(snapshot, gone.sreg, gone.pc, gone.sp, sp, busy * 32 + rest);
-        return budget;
-    }
-    settle(snapshot, gone.sreg, gone.pc, gone.sp, sp, rest);
-    gone.at as u32
+    leave(snapshot, gone.sreg, gone.pc, gone.sp, sp, rest, gone.at, budget)
 }

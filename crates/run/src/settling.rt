@@ -1,7 +1,8 @@
 // The six bytes of a snapshot behind its registers, changed where they lie.
 ghost use mathlib.Core.Path.{_≡_};
 ghost use mathlib.Core.List.{_++_};
-ghost use Prim.Native.Nat.{_+_, _*_, _<_};
+ghost use Prim.Native.Nat.{_+_, _*_, _-_, _<_, _≤_};
+ghost use lib.Dec.{ltb};
 ghost use lib.ListN.{length, getD, take};
 ghost use Rattle.basis.specs.Pick.{pick};
 ghost use Rattle.basis.specs.Bit.{one};
@@ -40,7 +41,7 @@ pub(crate) fn flags(inhibit: bool, in_service: bool, chip: bool) -> u8
 }
 
 // PC goes first and SP only where it is not what it was: then each pair of stores is one, which the loads of the next tick do not wait for.
-pub(crate) fn settle(snapshot: &mut [u8], sreg: u8, pc: u16, sp: u16, before: u16, last: u8)
+fn settle(snapshot: &mut [u8], sreg: u8, pc: u16, sp: u16, before: u16, last: u8)
     requires { ⌜ length (now snapshot) ≡ 38 ⌝ }
     requires { ⌜ before ≡ wordAt (now snapshot) 35 ⌝ }
     ensures { λ _. ⌜ now (snapshot .exit) ≡ take 32 (now (snapshot .entry)) ++ six sreg pc sp last ⌝ }
@@ -49,4 +50,19 @@ pub(crate) fn settle(snapshot: &mut [u8], sreg: u8, pc: u16, sp: u16, before: u1
     put_word_if(snapshot, sp != before, 35, sp);
     snapshot[32] = sreg;
     snapshot[37] = last;
+}
+
+// Where a stretch ended at the tick `at`: the ticks done, at most the budget. What is above the budget are waits.
+pub(crate) fn leave(snapshot: &mut [u8], sreg: u8, pc: u16, sp: u16, before: u16, rest: u8, at: u64, budget: u32) -> u32
+    requires { ⌜ (length (now snapshot) ≡ 38) × (before ≡ wordAt (now snapshot) 35) ⌝ }
+    requires { ⌜ (rest ≤ 28) × (at ≤ budget + 4) ⌝ }
+    ensures { λ _. ⌜ now (snapshot .exit) ≡ take 32 (now (snapshot .entry)) ++ six sreg pc sp ((at - budget) * 32 + rest) ⌝ }
+    ensures { λ r. ⌜ r ≡ pick (ltb at budget) at budget ⌝ }
+{
+    if at >= budget as u64 {
+        settle(snapshot, sreg, pc, sp, before, (at - budget as u64) as u8 * 32 + rest);
+        return budget;
+    }
+    settle(snapshot, sreg, pc, sp, before, rest);
+    at as u32
 }

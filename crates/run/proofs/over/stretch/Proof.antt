@@ -1,129 +1,84 @@
+-- `stretch`: the core of the snapshot's bytes to `go`, and what it left into them.
+-- Assumes nothing.
+use mathlib.Core.Path.{_≡_, refl, sym, ap, _∙_}
+use mathlib.Core.List.{List, _++_}
+use Prim.Native.Nat.{ℕ, _+_, _*_, _/_, _%_, _≤_, _<_}
+use native.Mathlib.Omega.{arith}
+use lib.Dec.{eqb}
+use lib.ListN.{length, getD, take, drop, length-append}
+use lib.Seq.{length-take-le}
 use borrow.Author.Needs.{needs}
+use Rattle.basis.specs.Bytes.{Bytes}
+use Rattle.basis.proofs.Bits.{one-le}
+use Rattle.run.specs.Settling.{wordAt}
+use Rattle.run.proofs.Stretched.{long, brief, long-kept, wentIn, sp-kept, front-bytes, stretched}
 use Rattle.run.proofs.over.stretch.Statement.{statement}
 use Rattle.run.proofs.over.stretch.Tie as tie
-use Rattle.run.proofs.over.stretch.Reads as reads
-use Rattle.run.proofs.over.stretch.Lts as lts
-use Rattle.run.proofs.go.go.Reads as go-reads
-use Rattle.run.proofs.settling.flags.Reads as flags-reads
-use Rattle.run.proofs.settling.settle.Reads as settle-reads
-use Rattle.run.proofs.settling.word_at.Reads as word-at-reads
 
--- src/over.rt:47:16
-slice-read-last : tie.Need-slice-read-last
-slice-read-last c = ?
+taken : (s : List ℕ) → length s ≡ 38 → length (take 32 s) ≡ 32
+taken s e = length-take-le 32 s (omega arith)
 
--- src/over.rt:48:9
-word-at-requires : tie.Need-word-at-requires
-word-at-requires c κs = ?
+-- as many registers came back
+came : (rs s : List ℕ) → length s ≡ 38 → length rs ≡ length (take 32 s) → length rs ≡ 32
+came rs s e h = h ∙ taken s e
 
--- src/over.rt:49:9
-word-at-requires-2 : tie.Need-word-at-requires-2
-word-at-requires-2 c κs = ?
-
--- src/over.rt:50:16
-slice-read-sreg : tie.Need-slice-read-sreg
-slice-read-sreg c = ?
-
--- src/over.rt:54:29
-cast-begin : tie.Need-cast-begin
-cast-begin c = ?
-
--- src/over.rt:54:17
-add-begin : tie.Need-add-begin
-add-begin c = ?
-
--- src/over.rt:55:19
-slice-relend-prefix-go : tie.Need-slice-relend-prefix-go
-slice-relend-prefix-go c = ?
-
--- src/over.rt:55:19
 slice-aggregate-go : tie.Need-slice-aggregate-go
-slice-aggregate-go c = ?
+slice-aggregate-go c =
+    let start = c .before .before .before .before .before .before .before .before .before .before in
+    let s = start .args .snapshot .now in
+    sym (taken s (long s (start .pre .0)))
 
--- src/over.rt:55:9
-go-requires : tie.Need-go-requires
-go-requires c κs = search needs
+leave-requires : tie.Need-leave-requires
+leave-requires c κs =
+    let back = c .before .before .before .before .before in
+    let went = back .before in
+    let start = went .before .before .before .before .before .before .before .before .before .before .before .before in
+    let a = start .args in
+    let s = a .snapshot .now in
+    let e = long s (start .pre .0) in
+    let g = went .go .result in
+    let rs = went .go .last .0 in
+    let n = came rs s e (went .go .kept .0) in
+    let small : c .before .flags .result ≤ 28 = omega (arith, c .before .flags .ensures, one-le (g .inhibit), one-le (g .«in_service»), one-le (eqb (getD s 37 0 / 4 % 2) 1)) in
+    let near = went .go .ensures .bounded (omega (arith, brief s (start .pre .0), start .pre .1)) in
+    ((long-kept rs s n e, went .before .before .before .before .word-at2 .ensures ∙ sp-kept rs s n e), (small, near))
 
--- src/over.rt:56:9
-flags-requires : tie.Need-flags-requires
-flags-requires c κs = search needs
-
--- src/over.rt:58:21
-sub-busy : tie.Need-sub-busy
-sub-busy c = search needs
-
--- src/over.rt:58:20
-cast-busy : tie.Need-cast-busy
-cast-busy c = ?
-
--- src/over.rt:59:59
-mul-settle : tie.Need-mul-settle
-mul-settle c = ?
-
--- src/over.rt:59:59
-add-settle : tie.Need-add-settle
-add-settle c = ?
-
--- src/over.rt:59:9
-settle-requires : tie.Need-settle-requires
-settle-requires c κs = ?
-
--- src/over.rt:60:9
-same-length : tie.Need-same-length
-same-length c = search needs
-
--- src/over.rt:60:9
-same-length-2 : tie.Need-same-length-2
-same-length-2 c = search needs
-
--- src/over.rt:60:9
 returns : tie.Need-returns
-returns c = ?
-
--- src/over.rt:62:5
-settle-requires-2 : tie.Need-settle-requires-2
-settle-requires-2 c κs = ?
-
--- src/over.rt:63:5
-cast-result : tie.Need-cast-result
-cast-result c = ?
-
--- src/over.rt:43:1
-same-length-3 : tie.Need-same-length-3
-same-length-3 c = search needs
-
--- src/over.rt:43:1
-same-length-4 : tie.Need-same-length-4
-same-length-4 c = search needs
-
--- src/over.rt:43:1
-returns-2 : tie.Need-returns-2
-returns-2 c = ?
+returns c =
+    let left = c .before .before in
+    let flagged = left .before .before in
+    let back = flagged .before .before .before .before in
+    let went = back .before in
+    let start = went .before .before .before .before .before .before .before .before .before .before .before .before in
+    let a = start .args in
+    let s = a .snapshot .now in
+    let h = start .pre .0 in
+    let g = went .go .result in
+    let rs = went .go .last .0 in
+    let m' = went .go .last .1 .1 .1 .1 .1 .1 .1 .1 .1 .0 in
+    let n = came rs s (long s h) (went .go .kept .0) in
+    let f : Bytes rs = record { byte-lt = front-bytes rs (drop 32 s) (λ i. omega (arith, flagged .before .before .before .slice-known5 .given i)) } in
+    let pc = went .before .before .before .before .before .before .word-at .ensures in
+    let sp = went .before .before .before .before .word-at2 .ensures in
+    let w : wentIn s (a .program .now) (a .«data» .now) (a .on) (a .at) (a .budget) g rs m' = rw (← pc, ← sp) (went .go .ensures) in
+    stretched s (a .program .now) (a .«data» .now) (a .on) (a .at) (a .budget) g rs m' h (start .pre .1) w n f (omega (arith, went .go .ok)) (omega (arith, went .go .ok)) (omega (arith, went .go .ok))
+    (left .leave .ensures .1) (rw (← flagged .flags .ensures) (left .leave .ensures .0))
 
 pub stretch-spec : {M : Type 1} → statement M
 stretch-spec =
     tie.close
     (tie.spec
-    slice-read-last
-    word-at-requires
-    word-at-requires-2
-    slice-read-sreg
-    cast-begin
-    add-begin
-    slice-relend-prefix-go
+    (λ c. let start = c .before .before .before .before in omega (arith, long (start .args .snapshot .now) (start .pre .0)))
+    (λ c κs. let start = c .before .before .before .before .before in omega (arith, long (start .args .snapshot .now) (start .pre .0)))
+    (λ c κs. let start = c .before .before .before .before .before .before .before in omega (arith, long (start .args .snapshot .now) (start .pre .0)))
+    (λ c. let start = c .before .before .before .before .before .before .before .before .before in omega (arith, long (start .args .snapshot .now) (start .pre .0)))
+    (λ c. let start = c .before .before .before .before .before .before .before .before .before in omega (arith, brief (start .args .snapshot .now) (start .pre .0)))
+    (λ c. let start = c .before .before .before .before .before .before .before .before .before in omega (arith, start .fits .at .fits, brief (start .args .snapshot .now) (start .pre .0)))
+    (λ c. let start = c .before .before .before .before .before .before .before .before .before in omega (arith, long (start .args .snapshot .now) (start .pre .0)))
     slice-aggregate-go
-    go-requires
-    flags-requires
-    sub-busy
-    cast-busy
-    mul-settle
-    add-settle
-    settle-requires
-    same-length
-    same-length-2
-    returns
-    settle-requires-2
-    cast-result
-    same-length-3
-    same-length-4
-    returns-2)
+    (λ c κs. search needs)
+    (λ c κs. search needs)
+    leave-requires
+    (λ c. search needs)
+    (λ c. search needs)
+    returns)

@@ -1,55 +1,43 @@
+-- `whole`: the core that the bytes say, the two operations of the tick, and its core written.
+-- Assumes nothing.
+use mathlib.Core.Path.{_≡_, ap, _∙_}
 use borrow.Author.Needs.{needs}
+use Rattle.cores.specs.declared.Core.{Core}
+use Rattle.tick.specs.Tick.{tickOf}
+use Rattle.tick.proofs.Foretold.{answered, left}
+use Rattle.snapshot.specs.Snapshot.{writeOf}
+use Rattle.run.specs.Over.{tickOver}
 use Rattle.run.proofs.over.whole.Statement.{statement}
 use Rattle.run.proofs.over.whole.Tie as tie
-use Rattle.run.proofs.over.whole.Reads as reads
-use Rattle.run.proofs.over.whole.Lts as lts
-use Rattle.snapshot.proofs.read.Reads as read-reads
-use Rattle.snapshot.proofs.write.Reads as write-reads
-use Rattle.tick.proofs.Plan.answer.Reads as answer-reads
-use Rattle.tick.proofs.carry_out.Reads as carry-out-reads
-use Rattle.tick.proofs.decide.Reads as decide-reads
 
--- src/over.rt:35:9
-read-requires : tie.Need-read-requires
-read-requires c κs = search needs
-
--- src/over.rt:36:9
-decide-requires : tie.Need-decide-requires
-decide-requires c κs = search needs
-
--- src/over.rt:37:9
-carry-out-requires : tie.Need-carry-out-requires
-carry-out-requires c κs = search needs
-
--- src/over.rt:38:5
-write-requires : tie.Need-write-requires
-write-requires c κs = search needs
-
--- src/over.rt:39:5
-answer-requires : tie.Need-answer-requires
-answer-requires c κs = search needs
-
--- src/over.rt:32:1
-same-length : tie.Need-same-length
-same-length c = search needs
-
--- src/over.rt:32:1
-same-length-2 : tie.Need-same-length-2
-same-length-2 c = search needs
-
--- src/over.rt:32:1
 returns : tie.Need-returns
-returns c = ?
+returns c =
+    let wrote = c .before .before .before in
+    let carried = wrote .before .before .before .before in
+    let decided = carried .before .before in
+    let read = decided .before .before in
+    let a = read .before .before .before .before .before .args in
+    let k = read .read .result .core in
+    let p = a .program .now in
+    let m = a .«data» .now in
+    let answer = answered k p m (a .offer) (decided .decide .ensures) (c .answer .ensures) in
+    let next = left k p m (a .offer) (decided .decide .ensures) (carried .carry-out .ensures) in
+    let tick : tickOf k p m (a .offer) ≡ tickOver (a .snapshot .now) p m (a .offer) = ap (λ r. tickOf (r .core) p m (a .offer)) (read .read .ensures) in
+    record {
+      answer = answer ∙ ap (λ t. t .answer) tick;
+      snapshot = wrote .write .ensures .bytes ∙ ap (λ (k' : Core). writeOf k' (a .snapshot .now) .bytes) (next .core ∙ ap (λ t. t .core) tick);
+      bytes = next .bytes ∙ ap (λ t. t .bytes) tick;
+    }
 
 pub whole-spec : {M : Type 1} → statement M
 whole-spec =
     tie.close
     (tie.spec
-    read-requires
-    decide-requires
-    carry-out-requires
-    write-requires
-    answer-requires
-    same-length
-    same-length-2
+    (λ c κs. search needs)
+    (λ c κs. search needs)
+    (λ c κs. search needs)
+    (λ c κs. search needs)
+    (λ c κs. search needs)
+    (λ c. search needs)
+    (λ c. search needs)
     returns)
