@@ -48,7 +48,7 @@ module _ (s : List ℕ) (h : readOf s .refusal ≡ 0) where
   pub brief : getD s 37 0 / 32 ≤ 4
   brief = ltb-false 4 (getD s 37 0 / 32) (reads 4 coreOf s h .brief)
 
-  said : saidBy s ≡ coreOf s
+  pub said : saidBy s ≡ coreOf s
   said = ap (λ r. r .core) (read-is 4 coreOf s (reads 4 coreOf s h))
 
   said-busy : saidBy s .busy ≡ getD s 37 0 / 32

@@ -4,6 +4,8 @@ use mathlib.Core.Logic.{_⊎_}
 use mathlib.Core.Bool.{Bool}
 use mathlib.Core.List.{List}
 use Prim.Native.Nat.{ℕ, _-_, _≤_}
+use lib.Dec.{ltb}
+use Rattle.basis.specs.Pick.{pick}
 use Rattle.cores.specs.declared.Core.{Core}
 use Rattle.tick.specs.Tick.{Tick, tickOf}
 use Rattle.tick.specs.declared.Offer.{Offer}
@@ -12,6 +14,7 @@ use Rattle.tick.specs.declared.Answer.the-variants.{Ran}
 use Rattle.snapshot.specs.Snapshot.{readOf, writeOf}
 use Rattle.run.specs.Run.{Run, after, runOf}
 use Rattle.run.specs.Lent.{offers}
+use Rattle.run.specs.declared.over.Over.{Over}
 
 -- the core that the bytes say, its tick and its run
 abbrev pub saidBy : List ℕ → Core
@@ -36,3 +39,17 @@ pub record Stretches (s p m : List ℕ) (on : Bool) (at b done : ℕ) (s' m' : L
   pub onward : at ≤ done
   pub bounded : done ≤ b
   pub rest : (o : Offer) → offers o ≡ on → restOver b at s p m o ≡ restOver b done s' p m' o
+
+-- a run's answer by its last tick's: "24, 22, 23 or that refusal"
+abbrev pub endedBy : ℕ → ℕ
+endedBy n = pick (ltb n 16) n (pick (ltb n 22) 24 n)
+
+abbrev pub runOver : ℕ → List ℕ → List ℕ → List ℕ → Offer → Run
+runOver b s p m o = runOf b (saidBy s) p m o
+
+-- a run, with the answer's number of its last tick
+pub record Advances (s p m : List ℕ) (o : Offer) (b : ℕ) (a : Over) (s' m' : List ℕ) : Type 0 where
+  pub answer : endedBy (a .answer) ≡ runOver b s p m o .answer
+  pub count : a .ticks ≡ runOver b s p m o .count
+  pub snapshot : s' ≡ writeOf (runOver b s p m o .core) s .bytes
+  pub bytes : m' ≡ runOver b s p m o .bytes

@@ -9,7 +9,7 @@ ghost use mathlib.Core.Path.{_≡_};
 ghost use Prim.Native.Nat.{_<_};
 ghost use Rattle.snapshot.specs.Snapshot.{readOf};
 ghost use Rattle.run.specs.Lent.{offers};
-ghost use Rattle.run.specs.Over.{TickedOver, Stretches};
+ghost use Rattle.run.specs.Over.{endedBy, TickedOver, Stretches, Advances};
 
 // The number of a tick's answer, and the ticks done.
 pub struct Over {
@@ -55,4 +55,54 @@ fn stretch(snapshot: &mut [u8], program: &[u8], data: &mut [u8], on: bool, at: u
     let gone = go(&mut snapshot[..32], pc, sp, sreg, inhibit, in_service, chip, begin, program, data, on, budget);
     let rest = flags(gone.inhibit, gone.in_service, chip);
     leave(snapshot, gone.sreg, gone.pc, gone.sp, sp, rest, gone.at, budget)
+}
+
+// A run of at least one tick, where the bytes are read.
+fn advance(snapshot: &mut [u8], program: &[u8], data: &mut [u8], offer: Offer, budget: u32) -> Over
+    requires { ⌜ (readOf (now snapshot) .refusal ≡ 0) × (0 < budget) ⌝ }
+    ensures { λ r. ⌜ Advances (now (snapshot .entry)) (now (program .entry)) (now («data» .entry)) offer budget r (now (snapshot .exit)) (now («data» .exit)) ⌝ }
+{
+    let on = offered(offer);
+    let mut at: u32 = 0;
+    loop {
+        let done = stretch(snapshot, program, data, on, at, budget);
+        if done == budget {
+            return told(RAN, budget);
+        }
+        let answer = whole(snapshot, program, data, offer);
+        let number = tick::number(answer);
+        if tick::refuses(answer) {
+            return told(number, done);
+        }
+        at = done + 1;
+        if tick::stops(answer) {
+            return told(number, at);
+        }
+        if at == budget {
+            return told(number, budget);
+        }
+    }
+}
+
+fn told(answer: u8, ticks: u32) -> Over
+    ensures { λ r. ⌜ r ≡ record { answer = answer; ticks = ticks } ⌝ }
+{
+    Over {
+        answer,
+        ticks,
+    }
+}
+
+// A run's answer, by its last tick's.
+fn ended_by(answer: u8) -> u8
+    ensures { λ r. ⌜ r ≡ endedBy answer ⌝ }
+{
+    if answer < 16 {
+        return answer;
+    }
+    if answer < 22 {
+        24
+    } else {
+        answer
+    }
 }
