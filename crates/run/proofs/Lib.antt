@@ -8,3 +8,4 @@ pub mod Six
 pub mod Stretched
 pub mod Offers
 pub mod Turns
+pub mod Calls

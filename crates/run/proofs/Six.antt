@@ -16,7 +16,7 @@ behind : (p q : List ℕ) (i v : ℕ) → set (p ++ q) (length p + i) v ≡ p ++
 behind [] q i v = ap (λ (k : ℕ). set q k v) (zero-add i)
 behind (x ∷ xs) q i v = ap (λ (k : ℕ). set (x ∷ (xs ++ q)) k v) (suc-add (length xs) i) ∙ ap (λ (r : List ℕ). x ∷ r) (behind xs q i v)
 
-stored : (p q : List ℕ) (n i v : ℕ) → length p + i ≡ n → set (p ++ q) n v ≡ p ++ set q i v
+pub stored : (p q : List ℕ) (n i v : ℕ) → length p + i ≡ n → set (p ++ q) n v ≡ p ++ set q i v
 stored p q n i v e = ap (λ (k : ℕ). set (p ++ q) k v) (sym e) ∙ behind p q i v
 
 word-stored : (p q : List ℕ) (n i w : ℕ) → length p + i ≡ n → wordPut (p ++ q) n w ≡ p ++ wordPut q i w

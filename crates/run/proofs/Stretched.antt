@@ -51,7 +51,7 @@ module _ (s : List ℕ) (h : readOf s .refusal ≡ 0) where
   pub said : saidBy s ≡ coreOf s
   said = ap (λ r. r .core) (read-is 4 coreOf s (reads 4 coreOf s h))
 
-  said-busy : saidBy s .busy ≡ getD s 37 0 / 32
+  pub said-busy : saidBy s .busy ≡ getD s 37 0 / 32
   said-busy = ap (λ (k : Core). k .busy) said ∙ busy-read s
 
   said-begins : withBusy (saidBy s) 0 ≡ begins s

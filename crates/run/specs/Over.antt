@@ -4,10 +4,10 @@ use mathlib.Core.Logic.{_⊎_}
 use mathlib.Core.Bool.{Bool}
 use mathlib.Core.List.{List}
 use Prim.Native.Nat.{ℕ, _-_, _≤_}
-use lib.Dec.{ltb}
+use lib.Dec.{eqb, ltb}
 use Rattle.basis.specs.Pick.{pick}
 use Rattle.cores.specs.declared.Core.{Core}
-use Rattle.tick.specs.Tick.{Tick, tickOf}
+use Rattle.tick.specs.Tick.{Tick, numberOf, tickOf}
 use Rattle.tick.specs.declared.Offer.{Offer}
 use Rattle.tick.specs.declared.Answer.{Answer}
 use Rattle.tick.specs.declared.Answer.the-variants.{Ran}
@@ -53,3 +53,40 @@ pub record Advances (s p m : List ℕ) (o : Offer) (b : ℕ) (a : Over) (s' m' :
   pub count : a .ticks ≡ runOver b s p m o .count
   pub snapshot : s' ≡ writeOf (runOver b s p m o .core) s .bytes
   pub bytes : m' ≡ runOver b s p m o .bytes
+
+-- ---- the calls: checks 7, 8 and 9 first, and "a refused call changes no core, no byte of data"
+-- a tick: "The next core is written into the same snapshot; the answer's number is returned."
+pub record TickIn : Type 0 where
+  pub number : ℕ
+  pub snapshot : List ℕ
+  pub bytes : List ℕ
+
+abbrev pub tickIn : List ℕ → List ℕ → List ℕ → Offer → TickIn
+tickIn s p m o =
+    let t = tickOver s p m o in
+    pick (eqb (readOf s .refusal) 0) (record { number = numberOf (t .answer); snapshot = writeOf (t .core) s .bytes; bytes = t .bytes })
+    (record { number = readOf s .refusal; snapshot = s; bytes = m })
+
+pub record TicksIn (t : TickIn) (n : ℕ) (s m : List ℕ) : Type 0 where
+  pub number : n ≡ t .number
+  pub snapshot : s ≡ t .snapshot
+  pub bytes : m ≡ t .bytes
+
+-- a run, and its count; 0 where a check refuses
+pub record RunIn : Type 0 where
+  pub answer : ℕ
+  pub count : ℕ
+  pub snapshot : List ℕ
+  pub bytes : List ℕ
+
+abbrev pub runIn : List ℕ → List ℕ → List ℕ → Offer → ℕ → RunIn
+runIn s p m o b =
+    let r = runOver b s p m o in
+    pick (eqb (readOf s .refusal) 0) (record { answer = r .answer; count = r .count; snapshot = writeOf (r .core) s .bytes; bytes = r .bytes })
+    (record { answer = readOf s .refusal; count = 0; snapshot = s; bytes = m })
+
+pub record RunsIn (r : RunIn) (a : Over) (s m : List ℕ) : Type 0 where
+  pub answer : a .answer ≡ r .answer
+  pub count : a .ticks ≡ r .count
+  pub snapshot : s ≡ r .snapshot
+  pub bytes : m ≡ r .bytes

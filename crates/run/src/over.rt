@@ -9,15 +9,17 @@ ghost use mathlib.Core.Path.{_≡_};
 ghost use Prim.Native.Nat.{_<_};
 ghost use Rattle.snapshot.specs.Snapshot.{readOf};
 ghost use Rattle.run.specs.Lent.{offers};
-ghost use Rattle.run.specs.Over.{endedBy, TickedOver, Stretches, Advances};
+ghost use Rattle.run.specs.Over.{endedBy, TickedOver, Stretches, Advances, tickIn, TicksIn, runIn, RunsIn};
 
-// The number of a tick's answer, and the ticks done.
+// The number of an answer, and the ticks done.
 pub struct Over {
     pub answer: u8,
     pub ticks: u32,
 }
 
+const WAITED: u8 = 16;
 const RAN: u8 = 18;
+const BUDGET: u8 = 24;
 
 fn offered(offer: Offer) -> bool
     ensures { λ r. ⌜ r ≡ offers offer ⌝ }
@@ -101,8 +103,56 @@ fn ended_by(answer: u8) -> u8
         return answer;
     }
     if answer < 22 {
-        24
+        BUDGET
     } else {
         answer
     }
+}
+
+// Checks 7, 8 and 9; 0 where they are passed.
+fn refused(snapshot: &[u8]) -> u8
+    ensures { λ r. ⌜ r ≡ readOf (now (snapshot .entry)) .refusal ⌝ }
+{
+    if snapshot.len() != 38 {
+        return 7;
+    }
+    let last = snapshot[37];
+    if last / 32 > 4 {
+        return 8;
+    }
+    if last % 4 != 0 {
+        return 9;
+    }
+    0
+}
+
+// A tick: the answer's number, or a check's. A refused call changes no byte.
+pub fn tick_in(snapshot: &mut [u8], program: &[u8], data: &mut [u8], offer: Offer) -> u8
+    ensures { λ n. ⌜ TicksIn (tickIn (now (snapshot .entry)) (now (program .entry)) (now («data» .entry)) offer) n (now (snapshot .exit)) (now («data» .exit)) ⌝ }
+{
+    let refusal = refused(snapshot);
+    if refusal != 0 {
+        return refusal;
+    }
+    let last = snapshot[37];
+    if last >= 32 {
+        snapshot[37] = last - 32;
+        return WAITED;
+    }
+    tick::number(whole(snapshot, program, data, offer))
+}
+
+// A run: its answer and its count, or a check's number, which no run answers, and 0.
+pub fn run_in(snapshot: &mut [u8], program: &[u8], data: &mut [u8], offer: Offer, budget: u32) -> Over
+    ensures { λ r. ⌜ RunsIn (runIn (now (snapshot .entry)) (now (program .entry)) (now («data» .entry)) offer budget) r (now (snapshot .exit)) (now («data» .exit)) ⌝ }
+{
+    let refusal = refused(snapshot);
+    if refusal != 0 {
+        return told(refusal, 0);
+    }
+    if budget == 0 {
+        return told(BUDGET, 0);
+    }
+    let ran = advance(snapshot, program, data, offer, budget);
+    told(ended_by(ran.answer), ran.ticks)
 }
