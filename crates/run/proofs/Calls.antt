@@ -1,24 +1,31 @@
 -- The calls over a snapshot: refused by a check, and passed on.
 -- Assumes nothing.
 use mathlib.Core.Path.{_≡_, refl, sym, ap, _∙_}
+use mathlib.Core.Logic.{inl, inr}
+use mathlib.Core.Bool.{Bool, true, false, not}
 use mathlib.Core.List.{List, [], _∷_, _++_}
-use Prim.Native.Nat.{ℕ, suc, _+_, _*_, _-_, _/_, _%_, _<_, _≤_}
+use Prim.Native.Nat.{ℕ, zero, suc, _+_, _*_, _-_, _/_, _%_, _<_, _≤_}
 use native.Mathlib.Omega.{arith}
+use lib.Dec.{eqb, ltb}
 use lib.ListN.{getD, set, length}
-use borrow.Author.Tests.{eq-eqb, ne-eqb}
+use borrow.Author.Tests.{eq-eqb, ne-eqb, le-leb, lt-leb}
+use Rattle.basis.specs.Pick.{pick}
 use Rattle.basis.specs.Bit.{one}
 use Rattle.basis.specs.Bytes.{Bytes}
+use Rattle.basis.proofs.Choice.{clash}
 use Rattle.cores.specs.declared.Core.{Core}
 use Rattle.cores.specs.State.{withBusy, Sound}
-use Rattle.tick.specs.Tick.{numberOf, gives}
+use Rattle.tick.specs.Tick.{Tick, numberOf, refuses, stops, tickOf}
 use Rattle.tick.specs.declared.Offer.{Offer}
-use Rattle.tick.specs.declared.Answer.the-variants.{Waited}
 use Rattle.tick.proofs.Steps.{busy-tick}
-use Rattle.snapshot.specs.Snapshot.{bytesOf, readOf, writeOf}
+use Rattle.invariants.specs.Ticks.{TickNumber}
+use Rattle.invariants.proofs.Ticks.{ticks-answer-tick-numbers}
+use Rattle.snapshot.specs.Snapshot.{bytesOf, coreOf, refusedRead, readOf, writeOf}
 use Rattle.snapshot.proofs.RoundTrips.{at-tail, bytes-back, written, writing-undoes-reading}
-use Rattle.run.specs.Run.{ran}
-use Rattle.run.specs.Over.{saidBy, tickOver, runOver, endedBy, Advances, tickIn, TicksIn, runIn, RunsIn}
+use Rattle.run.specs.Run.{Run, ran, runOf}
+use Rattle.run.specs.Over.{saidBy, tickOver, runOver, endedBy, Advances, tickIn, TicksIn, runIn, RunsIn, ofCheck}
 use Rattle.run.specs.declared.over.Over.{Over}
+use Rattle.run.proofs.Unroll.{step}
 use Rattle.run.proofs.Six.{stored}
 use Rattle.run.proofs.Stretched.{long, brief, said-busy}
 use Rattle.run.proofs.Turns.{said-sound}
@@ -80,3 +87,45 @@ module _ (s p m : List ℕ) (o : Offer) (h : readOf s .refusal ≡ 0) (bs : Byte
       (ap (λ (l : List ℕ). set l 37 (getD s 37 0 - 32)) (sym back) ∙ one-less ∙ sym (ap (λ x. x .bytes) (written (withBusy k b) s small (long s h)))
       ∙ sym (ap (λ x. writeOf (x .core) s .bytes) t))
       (sym (ap (λ x. x .bytes) t))
+
+-- ---- a check's numbers and a run's
+-- a run answers 1 to 5, or 22 to 24
+no-check : (x : ℕ) → TickNumber x → ofCheck x ≡ false
+no-check x (inl h) = rw (lt-leb 7 x (omega (arith, h)))
+no-check x (inr h) = rw (le-leb 7 x (omega (arith, h)), lt-leb x 9 (omega (arith, h)))
+
+step-answers : (r s : Bool) (t : Tick) (x : Run) → TickNumber (numberOf (t .answer)) → ofCheck (x .answer) ≡ false → ofCheck (step r s t x .answer) ≡ false
+step-answers true s t x h i = no-check (numberOf (t .answer)) h
+step-answers false true t x h i = no-check (numberOf (t .answer)) h
+step-answers false false t x h i = i
+
+run-answers : (b : ℕ) (k : Core) (p m : List ℕ) (o : Offer) → ofCheck (runOf b k p m o .answer) ≡ false
+unfolding ran
+run-answers zero k p m o = refl
+run-answers (suc b) k p m o =
+    let t = tickOf k p m o in
+    step-answers (refuses (t .answer)) (stops (t .answer)) t (runOf b (t .core) p (t .bytes) o) (ticks-answer-tick-numbers k p m o) (run-answers b (t .core) p (t .bytes) o)
+
+-- a refused read's number is a check's
+read-answers : (u v w : Bool) (k : Core) → (let r = pick u (pick v (refusedRead 8) (pick w (record { refusal = 0; core = k }) (refusedRead 9))) (refusedRead 7) in
+    eqb (r .refusal) 0 ≡ false → ofCheck (r .refusal) ≡ true)
+read-answers false v w k h = refl
+read-answers true true w k h = refl
+read-answers true false false k h = refl
+read-answers true false true k h = clash h
+
+module _ (s p m : List ℕ) (o : Offer) (b : ℕ) where
+  pub run-in-refused : eqb (readOf s .refusal) 0 ≡ false → runIn s p m o b ≡ record { answer = readOf s .refusal; count = 0; snapshot = s; bytes = m }
+  run-in-refused e = rw e
+
+  pub run-in-passed : eqb (readOf s .refusal) 0 ≡ true
+      → runIn s p m o b ≡ (let r = runOver b s p m o in record { answer = r .answer; count = r .count; snapshot = writeOf (r .core) s .bytes; bytes = r .bytes })
+  run-in-passed e = rw e
+
+  -- so the answer tells whether a check refused
+  told-by : (t : Bool) → eqb (readOf s .refusal) 0 ≡ t → ofCheck (runIn s p m o b .answer) ≡ not t
+  told-by true e = ap (λ r. ofCheck (r .answer)) (run-in-passed e) ∙ run-answers b (saidBy s) p m o
+  told-by false e = ap (λ r. ofCheck (r .answer)) (run-in-refused e) ∙ read-answers (eqb (length s) 38) (ltb 4 (getD s 37 0 / 32)) (eqb (getD s 37 0 % 4) 0) (coreOf s) e
+
+  pub check-told : ofCheck (runIn s p m o b .answer) ≡ not (eqb (readOf s .refusal) 0)
+  check-told = told-by (eqb (readOf s .refusal) 0) refl

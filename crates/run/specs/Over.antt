@@ -1,10 +1,10 @@
 -- Runs over a snapshot. s are the bytes of a snapshot, p is a program, m the bytes of data, o an offer, b a budget; s' and m' are what the code leaves of s and m.
 use mathlib.Core.Path.{_≡_}
 use mathlib.Core.Logic.{_⊎_}
-use mathlib.Core.Bool.{Bool}
+use mathlib.Core.Bool.{Bool, _&&_}
 use mathlib.Core.List.{List}
 use Prim.Native.Nat.{ℕ, _-_, _≤_}
-use lib.Dec.{eqb, ltb}
+use lib.Dec.{eqb, leb, ltb}
 use Rattle.basis.specs.Pick.{pick}
 use Rattle.cores.specs.declared.Core.{Core}
 use Rattle.tick.specs.Tick.{Tick, numberOf, tickOf}
@@ -90,3 +90,7 @@ pub record RunsIn (r : RunIn) (a : Over) (s m : List ℕ) : Type 0 where
   pub count : a .ticks ≡ r .count
   pub snapshot : s ≡ r .snapshot
   pub bytes : m ≡ r .bytes
+
+-- the numbers of the checks 7, 8 and 9, which no run answers
+abbrev pub ofCheck : ℕ → Bool
+ofCheck n = leb 7 n && leb n 9

@@ -10,6 +10,10 @@ mod go;
 mod over;
 mod settling;
 
+pub use over::Over;
+pub use over::run_in;
+pub use over::tick_in;
+
 // The answer is 24, 22, 23 or the refusal, by 01's numbers; `ticks` counts the ticks done.
 pub struct Ran {
     pub answer: u8,
