@@ -9,3 +9,4 @@ pub mod Stretched
 pub mod Offers
 pub mod Turns
 pub mod Calls
+pub mod Through
