@@ -1,6 +1,7 @@
 // The C interface: the tick and the run over a snapshot, and HEX files. Numbers are 01's and 02's; 65,536 is no offer.
 use tick::Offer;
 ghost use mathlib.Core.Path.{_≡_};
+ghost use Rattle.run.specs.Over.{ofCheck};
 ghost use Rattle.host.specs.Host.{offerOf, avrTickOf, avrRunOf, Tells, TellsTicks};
 
 mod hex_files;
@@ -26,14 +27,7 @@ pub extern "C" fn avr_tick(snapshot: &mut [u8], program: &[u8], data: &mut [u8],
     if offer > 65536 {
         return 10;
     }
-    let read = snapshot::read(snapshot);
-    if read.refusal != 0 {
-        return read.refusal as u32;
-    }
-    let plan = tick::decide(read.core, program, data, offer_of(offer));
-    let next = tick::carry_out(read.core, plan, program, data);
-    snapshot::write(next, snapshot);
-    tick::number(plan.answer()) as u32
+    run::tick_in(snapshot, program, data, offer_of(offer)) as u32
 }
 
 // What `avr_tick` would return, by the same checks. Every slice is only read.
@@ -66,14 +60,17 @@ pub extern "C" fn avr_run(
     if offer > 65536 {
         return 10;
     }
-    let read = snapshot::read(snapshot);
-    if read.refusal != 0 {
-        return read.refusal as u32;
+    let over = run::run_in(snapshot, program, data, offer_of(offer), budget);
+    if of_check(over.answer) {
+        return over.answer as u32;
     }
-    let core = read.core;
-    let ran = run::run(core, program, data, offer_of(offer), budget);
-    let next = ran.core;
-    snapshot::write(next, snapshot);
-    *ticks = ran.ticks;
-    ran.answer as u32
+    *ticks = over.ticks;
+    over.answer as u32
+}
+
+// 7, 8 or 9, which no run answers.
+fn of_check(answer: u8) -> bool
+    ensures { λ r. ⌜ r ≡ ofCheck answer ⌝ }
+{
+    (answer >= 7) & (answer <= 9)
 }

@@ -49,13 +49,13 @@ bit-back (suc zero) h = refl
 bit-back (suc (suc x)) h = absurd (omega arith)
 
 -- ---- reading what was written
-at-tail : (r t : List ℕ) → length r ≡ 32 → (i : ℕ) → getD (r ++ t) (32 + i) 0 ≡ getD t i 0
+pub at-tail : (r t : List ℕ) → length r ≡ 32 → (i : ℕ) → getD (r ++ t) (32 + i) 0 ≡ getD t i 0
 at-tail r t h i = rw (← h) (getD-append-add r t i 0)
 
 joined : (x : ℕ) → x / 256 * 256 + x % 256 ≡ x
 joined x = omega arith
 
-read-back : (k : Core) → Sound k → readOf (bytesOf k) ≡ record { refusal = 0; core = k }
+pub read-back : (k : Core) → Sound k → readOf (bytesOf k) ≡ record { refusal = 0; core = k }
 unfolding freshOf withRegs withPc withBusy withInhibit withService withChip
 read-back k s =
     let h = s .count in
@@ -134,11 +134,11 @@ module _ (spare : ℕ) (says : List ℕ → Core) (s : List ℕ) where
   reads-by true false false e f g h = absurd (omega (arith, rw (e, f, g) at h))
   reads-by true false true e f g h = record { long = e; brief = f; clean = g }
 
-  reads : readBy spare says s .refusal ≡ 0 → Reads spare s
+  pub reads : readBy spare says s .refusal ≡ 0 → Reads spare s
   reads h = reads-by (eqb (length s) 38) (ltb 4 (getD s 37 0 / 32)) (eqb (getD s 37 0 % spare) 0) refl refl refl h
 
   -- and then they are what `says` says
-  read-is : Reads spare s → readBy spare says s ≡ record { refusal = 0; core = says s }
+  pub read-is : Reads spare s → readBy spare says s ≡ record { refusal = 0; core = says s }
   read-is r = rw (r .long, r .brief, r .clean)
 
 pub bytes-back : (s : List ℕ) → Bytes s → readOf s .refusal ≡ 0 → bytesOf (readOf s .core) ≡ s
@@ -147,14 +147,14 @@ bytes-back s b h =
     rw (read-is 4 coreOf s r) (whole-back s b (eqb-true (length s) 38 (r .long)) (eqb-true (getD s 37 0 % 4) 0 (r .clean)))
 
 -- ---- into a buffer of 38 bytes
-written : (k : Core) (out : List ℕ) → k .busy ≤ 4 → length out ≡ 38 → writeOf k out ≡ wrote 0 (bytesOf k)
+pub written : (k : Core) (out : List ℕ) → k .busy ≤ 4 → length out ≡ 38 → writeOf k out ≡ wrote 0 (bytesOf k)
 written k out b h = rw (eq-eqb (length out) 38 h, le-ltb 4 (k .busy) b)
 
 pub reading-undoes-writing : ReadingUndoesWriting
 reading-undoes-writing k out s h = rw (written k out (s .busy-le) h) (read-back k s)
 
 -- a core that was read is not too busy
-read-busy : (s : List ℕ) → readOf s .refusal ≡ 0 → readOf s .core .busy ≤ 4
+pub read-busy : (s : List ℕ) → readOf s .refusal ≡ 0 → readOf s .core .busy ≤ 4
 read-busy s h = let r = reads 4 coreOf s h in rw (read-is 4 coreOf s r, busy-read s) (ltb-false 4 (getD s 37 0 / 32) (r .brief))
 
 pub writing-undoes-reading : WritingUndoesReading

@@ -1,13 +1,32 @@
--- `avr_tick`: the checks in their order, then the two operations of the tick, then the core written.
+-- `avr_tick`: check 10, then the tick over the snapshot.
 -- Assumes nothing.
-use mathlib.Core.Path.{refl, ap, _∙_}
+use mathlib.Core.Path.{refl}
+use mathlib.Core.List.{List}
+use Prim.Native.Nat.{ℕ}
+use lib.Dec.{eqb}
 use borrow.Author.Needs.{needs}
-use borrow.Author.Tests.{lt-ltb, le-ltb, eq-eqb, ne-eqb}
-use Rattle.tick.specs.Tick.{numberOf}
-use Rattle.tick.proofs.Foretold.{answered, left}
-use Rattle.host.specs.Host.{avrTickOf}
+use borrow.Author.Tests.{lt-ltb, le-ltb}
+use Rattle.basis.specs.Pick.{pick}
+use Rattle.basis.proofs.Choice.{test}
+use Rattle.tick.specs.Tick.{numberOf, tickOf}
+use Rattle.tick.specs.declared.Offer.{Offer}
+use Rattle.snapshot.specs.Snapshot.{readOf, writeOf}
+use Rattle.run.specs.Over.{tickIn, TicksIn}
+use Rattle.host.specs.Host.{Told, told, Tells, avrTickOf}
 use Rattle.host.proofs.avr_tick.Statement.{statement}
 use Rattle.host.proofs.avr_tick.Tie as tie
+
+-- the call's tick, where check 10 is passed
+abbrev passed : List ℕ → List ℕ → List ℕ → Offer → Told
+passed s p m o =
+    let t = tickOf (readOf s .core) p m o in
+    pick (eqb (readOf s .refusal) 0) (told (numberOf (t .answer)) (writeOf (t .core) s .bytes) (t .bytes)) (told (readOf s .refusal) s m)
+
+tells : (s p m : List ℕ) (o : Offer) {n : ℕ} {s' m' : List ℕ} → TicksIn (tickIn s p m o) n s' m' → Tells (passed s p m o) n s' m'
+tells s p m o w =
+    test (eqb (readOf s .refusal) 0)
+    (λ e. let v = rw e at w in rw e (record { number = v .number; snapshot = v .snapshot; bytes = v .bytes }))
+    (λ e. let v = rw e at w in rw e (record { number = v .number; snapshot = v .snapshot; bytes = v .bytes }))
 
 pub avr-tick-spec : {M : Type 1} → statement M
 unfolding avrTickOf
@@ -16,30 +35,11 @@ avr-tick-spec =
     (tie.spec
     (λ c. rw (lt-ltb _ _ (c .if1 .taken)) (record { number = refl; snapshot = refl; bytes = refl }))
     (λ c κs. search needs)
-    (λ c. search needs)
-    (λ c. search needs)
-    (λ c. let read = c .before .before .before in
-    rw (le-ltb _ _ (read .before .before .if1 .left), ← read .read .ensures, ne-eqb _ _ (c .before .if2 .taken)) (record { number = refl; snapshot = refl; bytes = refl }))
-    (λ c κs. search needs)
-    (λ c κs. search needs)
-    (λ c κs. search needs)
-    (λ c κs. search needs)
-    (λ c κs. search needs)
     (λ c κs. search needs)
     (λ c. search needs)
     (λ c. search needs)
     (λ c. search needs)
-    (λ c. let wrote = c .before .before .before .before in
-    let carried = wrote .before .before .before .before in
-    let decided = carried .before .before in
-    let offered = decided .before in
-    let read = offered .before .before .before .before in
-    let a = read .before .before .before .before .before .before .args in
-    let k = read .read .result .core in
-    let p = a .program .now in
-    let m = a .«data» .now in
-    let o = offered .offer-of .result in
-    let answer = answered k p m o (decided .decide .ensures) (c .before .answer .ensures) in
-    let next = left k p m o (decided .decide .ensures) (carried .carry-out .ensures) in
-    rw (le-ltb _ _ (read .before .before .if1 .left), ← read .read .ensures, eq-eqb _ _ (offered .before .before .if2 .left), ← offered .offer-of .ensures, ← next .core)
-    (record { number = c .number .ensures ∙ ap numberOf answer; snapshot = wrote .write .ensures .bytes; bytes = next .bytes })))
+    (λ c. let a = c .before .before .before .before .before .before .before .before .before .before .before .before .args in
+    let offered = c .before .before .before .before .before .offer-of in
+    rw (le-ltb _ _ (c .before .before .before .before .before .before .before .before .if1 .left), ← offered .ensures)
+    (tells (a .snapshot .now) (a .program .now) (a .«data» .now) (offered .result) (c .before .before .before .before .tick-in .ensures))))
