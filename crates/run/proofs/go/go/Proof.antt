@@ -22,7 +22,7 @@ use Rattle.run.proofs.go.go.Tie as tie
 
 -- nothing is done yet, or the first tick ran
 abbrev First : ℕ → ℕ → Core → Core → List ℕ → List ℕ → List ℕ → Offer → Type 0
-First at at₀ k k₀ p m m₀ o = ((at ≡ at₀) × ((k ≡ k₀) × (m ≡ m₀))) ⊎ (tickOf k₀ p m₀ o .answer ≡ Ran)
+First at at₀ k k₀ p m m₀ o = ((at ≡ at₀) × ((k ≡ k₀) × (m ≡ m₀))) ⊎ ((at₀ < at) × (tickOf k₀ p m₀ o .answer ≡ Ran))
 
 abbrev Inv-loop : tie.InvT-loop
 Inv-loop regs₀ pc0 sp0 sreg0 inhibit0 in-service0 chip at0 program data₀ offered budget pc₀ sp₀ sreg₀ inhibit₀ in-service₀ at₀ regs «data» pc sp sreg inhibit in-service at =
@@ -36,9 +36,9 @@ abbrev μ-loop : tie.MeasureT-loop
 μ-loop regs₀ pc0 sp0 sreg0 inhibit0 in-service0 chip at0 program data₀ offered budget pc₀ sp₀ sreg₀ inhibit₀ in-service₀ at₀ regs «data» pc sp sreg inhibit in-service at = budget - at
 
 -- one turn, with a tick that ran from k
-ran-first : (at at' at₀ : ℕ) (k k' k₀ : Core) (p m m' m₀ : List ℕ) (o : Offer) → tickOf k p m o .answer ≡ Ran → First at at₀ k k₀ p m m₀ o → First at' at₀ k' k₀ p m' m₀ o
-ran-first at at' at₀ k k' k₀ p m m' m₀ o ran (inl (_, (e, f))) = inr (rw (e, f) at ran)
-ran-first at at' at₀ k k' k₀ p m m' m₀ o ran (inr h) = inr h
+ran-first : (at at' at₀ : ℕ) (k k' k₀ : Core) (p m m' m₀ : List ℕ) (o : Offer) → at₀ < at' → tickOf k p m o .answer ≡ Ran → First at at₀ k k₀ p m m₀ o → First at' at₀ k' k₀ p m' m₀ o
+ran-first at at' at₀ k k' k₀ p m m' m₀ o on ran (inl (_, (e, f))) = inr (on, rw (e, f) at ran)
+ran-first at at' at₀ k k' k₀ p m m' m₀ o on ran (inr (_, h)) = inr (on, h)
 
 on-again : tie.Need-loop-again Inv-loop μ-loop
 on-again c =
@@ -66,7 +66,7 @@ on-again c =
             c .before .before .«data» .given ∙ l .inv .1 .1 .1 .0,
             (
               λ o e. l .inv .1 .1 .1 .1 .0 o e ∙ carried-on (l .regs) _ (l .pc + 1) (l .sp) (l .sreg) (l .in-service) (a .chip) z (instructionOf f w x) p (l .«data») _ left (a .budget) (l .at) _ o (asked .before .before .before .loop-test .taken) (runs (a .chip) o e),
-              λ o e. ran-first (l .at) _ (a .at0) _ _ _ p (l .«data») _ (a .«data» .now) o (ap (λ (t : Tick). t .answer) (runs (a .chip) o e)) (l .inv .1 .1 .1 .1 .1 o e),
+              λ o e. ran-first (l .at) _ (a .at0) _ _ _ p (l .«data») _ (a .«data» .now) o (omega (arith, l .inv .0)) (ap (λ (t : Tick). t .answer) (runs (a .chip) o e)) (l .inv .1 .1 .1 .1 .1 o e),
             ),
           ),
         ),
