@@ -10,6 +10,8 @@ use Rattle.tick.proofs.foretell.Met as foretell
 use Rattle.tick.proofs.tick.Met as tick
 use Rattle.tick.proofs.tick_in_place.Met as tick-in-place
 use Rattle.run.proofs.run.Met as run
+use Rattle.run.proofs.tick_in.Met as tick-in
+use Rattle.run.proofs.run_in.Met as run-in
 use Rattle.snapshot.proofs.write.Met as write
 use Rattle.snapshot.proofs.read.Met as read
 use Rattle.host.proofs.avr_tick.Met as avr-tick
@@ -22,6 +24,10 @@ use Rattle.hex.proofs.write.Met as hex-write
 use Rattle.host.proofs.avr_hex_read.Met as avr-hex-read
 use Rattle.host.proofs.avr_hex_write.Met as avr-hex-write
 use Rattle.forms.proofs.form_of.Met as form-of
+use Rattle.word_form.proofs.form_of.Met as word-form
+use Rattle.word_form.proofs.has_second.Met as has-second
+use Rattle.registers.proofs.change.Met as change
+use Rattle.effects.proofs.effect.Met as effect
 use Rattle.form_table.proofs.forms.Met as forms
 use Rattle.table_decode.proofs.instruction_of.Met as instruction-of
 use Rattle.table_decode.proofs.decode.Met as table-decode
@@ -42,6 +48,8 @@ contracts =
       tick = tick.met;
       tick-in-place = tick-in-place.met;
       run = run.met;
+      tick-in = tick-in.met;
+      run-in = run-in.met;
       write = write.met;
       read = read.met;
       avr-tick = avr-tick.met;
@@ -54,6 +62,10 @@ contracts =
       avr-hex-read = avr-hex-read.met;
       avr-hex-write = avr-hex-write.met;
       form-of = form-of.met;
+      word-form = word-form.met;
+      has-second = has-second.met;
+      change = change.met;
+      effect = effect.met;
       forms = forms.met;
       instruction-of = instruction-of.met;
       table-decode = table-decode.met;

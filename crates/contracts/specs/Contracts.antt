@@ -10,6 +10,8 @@ use Rattle.tick.proofs.foretell.Statement as foretell
 use Rattle.tick.proofs.tick.Statement as tick
 use Rattle.tick.proofs.tick_in_place.Statement as tick-in-place
 use Rattle.run.proofs.run.Statement as run
+use Rattle.run.proofs.tick_in.Statement as tick-in
+use Rattle.run.proofs.run_in.Statement as run-in
 use Rattle.snapshot.proofs.write.Statement as write
 use Rattle.snapshot.proofs.read.Statement as read
 use Rattle.host.proofs.avr_tick.Statement as avr-tick
@@ -22,6 +24,10 @@ use Rattle.hex.proofs.write.Statement as hex-write
 use Rattle.host.proofs.avr_hex_read.Statement as avr-hex-read
 use Rattle.host.proofs.avr_hex_write.Statement as avr-hex-write
 use Rattle.forms.proofs.form_of.Statement as form-of
+use Rattle.word_form.proofs.form_of.Statement as word-form
+use Rattle.word_form.proofs.has_second.Statement as has-second
+use Rattle.registers.proofs.change.Statement as change
+use Rattle.effects.proofs.effect.Statement as effect
 use Rattle.form_table.proofs.forms.Statement as forms
 use Rattle.table_decode.proofs.instruction_of.Statement as instruction-of
 use Rattle.table_decode.proofs.decode.Statement as table-decode
@@ -46,6 +52,9 @@ pub record Contracts : Type 2 where
   pub tick-in-place : {M : Type 1} → tick-in-place.statement M
   -- crates/run/src/lib.rt
   pub run : {M : Type 1} → run.statement M
+  -- crates/run/src/over.rt
+  pub tick-in : {M : Type 1} → tick-in.statement M
+  pub run-in : {M : Type 1} → run-in.statement M
   -- crates/snapshot/src/lib.rt
   pub write : {M : Type 1} → write.statement M
   pub read : {M : Type 1} → read.statement M
@@ -65,6 +74,13 @@ pub record Contracts : Type 2 where
   pub avr-hex-write : {M : Type 1} → avr-hex-write.statement M
   -- crates/forms/src/lib.rt
   pub form-of : {M : Type 1} → form-of.statement M
+  -- crates/word_form/src/lib.rt
+  pub word-form : {M : Type 1} → word-form.statement M
+  pub has-second : {M : Type 1} → has-second.statement M
+  -- crates/registers/src/lib.rt
+  pub change : {M : Type 1} → change.statement M
+  -- crates/effects/src/lib.rt
+  pub effect : {M : Type 1} → effect.statement M
   -- crates/form_table/src/lib.rt
   pub forms : {M : Type 1} → forms.statement M
   -- crates/table_decode/src/lib.rt

@@ -13,6 +13,7 @@ use Rattle.effects.specs.Parts.{cored}
 use Rattle.tick.specs.declared.Answer.{Answer}
 use Rattle.tick.specs.declared.Ticked.{Ticked}
 use Rattle.run.specs.declared.Ran.{Ran}
+use Rattle.run.specs.declared.over.Over.{Over}
 use Rattle.promises.specs.OneOutcome.{OneOutcome, One}
 
 equation : {A : Type 0} {d x y : A} → x ≡ d → y ≡ d → x ≡ y
@@ -33,6 +34,9 @@ ticked e f = cc (e, f)
 
 ran : {a a′ n n′ : ℕ} {k k′ : Core} → a ≡ a′ → n ≡ n′ → k ≡ k′ → Path Ran (record { answer = a; ticks = n; core = k }) (record { answer = a′; ticks = n′; core = k′ })
 ran e f g = cc (e, f, g)
+
+over : {a a′ n n′ : ℕ} → a ≡ a′ → n ≡ n′ → Path Over (record { answer = a; ticks = n }) (record { answer = a′; ticks = n′ })
+over e f = cc (e, f)
 
 -- a core has its parts
 step : {pc pc′ sp sp′ s s′ b b′ : ℕ} {i i′ v v′ : Bool} → pc ≡ pc′ → sp ≡ sp′ → s ≡ s′ → b ≡ b′ → i ≡ i′ → v ≡ v′
@@ -69,6 +73,8 @@ one-outcome =
       runs =
           λ o x y e f.
           two (ran (equation (e .answer) (f .answer)) (equation (e .count) (f .count)) (equation (e .core) (f .core))) (equation (e .bytes) (f .bytes));
+      ticks-in = λ o x y e f. three (equation (e .number) (f .number)) (equation (e .snapshot) (f .snapshot)) (equation (e .bytes) (f .bytes));
+      runs-in = λ o x y e f. three (over (equation (e .answer) (f .answer)) (equation (e .count) (f .count))) (equation (e .snapshot) (f .snapshot)) (equation (e .bytes) (f .bytes));
       writes = λ o x y e f. two (equation (e .refusal) (f .refusal)) (equation (e .bytes) (f .bytes));
       tells = λ o x y e f. three (equation (e .number) (f .number)) (equation (e .snapshot) (f .snapshot)) (equation (e .bytes) (f .bytes));
       tells-ticks =

@@ -1,4 +1,4 @@
--- 01: "Prove that two outcomes meeting one contract are the same." Every public function's contract is one of these twelve; docs/CONTRACTS.md says which is whose.
+-- 01: "Prove that two outcomes meeting one contract are the same." Every public function's contract is one of these fourteen; docs/CONTRACTS.md says which is whose.
 use mathlib.Core.Path.{_≡_}
 use mathlib.Core.Bool.{Bool}
 use mathlib.Core.List.{List}
@@ -14,6 +14,8 @@ use Rattle.tick.specs.declared.Ticked.{Ticked}
 use Rattle.tick.specs.Tick.{Tick, Ticks, inPlace}
 use Rattle.run.specs.declared.Ran.{Ran}
 use Rattle.run.specs.Run.{Run, Runs}
+use Rattle.run.specs.declared.over.Over.{Over}
+use Rattle.run.specs.Over.{TickIn, TicksIn, RunIn, RunsIn}
 use Rattle.snapshot.specs.Snapshot.{Written, Writes}
 use Rattle.host.specs.Host.{Told, Tells, ToldTicks, TellsTicks}
 use Rattle.tracing.specs.Trace.{Prints}
@@ -35,7 +37,9 @@ pub record OneOutcome : Type 1 where
   pub ticks : (t : Tick) → One (λ (x : Ticked × List ℕ). Ticks t (x .0) (x .1))
   pub ticks-in-place : (t : Tick) → One (λ (x : Answer × Core × List ℕ). Ticks t (inPlace (x .0) (x .1)) (x .2))
   pub runs : (r : Run) → One (λ (x : Ran × List ℕ). Runs r (x .0) (x .1))
-  -- a number, and the bytes of each lent buffer
+  -- a number, or a run's answer and count, and the bytes of each lent buffer
+  pub ticks-in : (t : TickIn) → One (λ (x : ℕ × List ℕ × List ℕ). TicksIn t (x .0) (x .1) (x .2))
+  pub runs-in : (r : RunIn) → One (λ (x : Over × List ℕ × List ℕ). RunsIn r (x .0) (x .1) (x .2))
   pub writes : (w : Written) → One (λ (x : ℕ × List ℕ). Writes w (x .0) (x .1))
   pub tells : (t : Told) → One (λ (x : ℕ × List ℕ × List ℕ). Tells t (x .0) (x .1) (x .2))
   pub tells-ticks : (t : ToldTicks) → One (λ (x : ℕ × List ℕ × List ℕ × ℕ). TellsTicks t (x .0) (x .1) (x .2) (x .3))
