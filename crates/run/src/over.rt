@@ -73,16 +73,17 @@ fn advance(snapshot: &mut [u8], program: &[u8], data: &mut [u8], offer: Offer, b
         }
         let answer = whole(snapshot, program, data, offer);
         let number = tick::number(answer);
+        let next = done + 1;
         if tick::refuses(answer) {
             return told(number, done);
         }
-        at = done + 1;
         if tick::stops(answer) {
-            return told(number, at);
+            return told(number, next);
         }
-        if at == budget {
+        if next == budget {
             return told(number, budget);
         }
+        at = next;
     }
 }
 

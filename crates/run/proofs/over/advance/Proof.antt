@@ -185,12 +185,12 @@ advance-spec =
     returns
     (λ c κs. search needs)
     (λ c κs. search needs)
+    (λ c. omega (arith, near c, start (here c) .fits .budget .fits))
     (λ c κs. search needs)
     (λ c κs. search needs)
     (λ c. same-snapshot-2 (c .before .before .before))
     (λ c. same-data-2 (c .before .before .before))
     returns-2
-    (λ c. let w = c .before .before in omega (arith, near w, start (here w) .fits .budget .fits))
     (λ c κs. search needs)
     (λ c κs. search needs)
     (λ c. same-snapshot-2 (c .before .before .before .before .before))

@@ -26,7 +26,7 @@ returns-2 c =
     let a = c .before .before .before .before .before .before .before .before .args in
     let s = a .snapshot .now in
     let bytes : Bytes s = record { byte-lt = λ i. omega (arith, c .before .slice-known3 .given i) } in
-    tick-waits s (a .program .now) (a .«data» .now) (a .offer) (passed (c .before .before)) bytes (c .if2 .taken)
+    tick-waits s (a .program .now) (a .«data» .now) (a .offer) (passed (c .before .before)) bytes (omega (arith, c .if2 .taken))
 
 returns-3 : tie.Need-returns-3
 returns-3 c =
