@@ -60,10 +60,12 @@ fn stretch(snapshot: &mut [u8], program: &[u8], data: &mut [u8], on: bool, at: u
 }
 
 // A run of at least one tick, where the bytes are read.
-fn advance(snapshot: &mut [u8], program: &[u8], data: &mut [u8], offer: Offer, budget: u32) -> Over
+fn advance(snapshot: &mut [u8], program0: &[u8], data: &mut [u8], offer: Offer, budget: u32) -> Over
     requires { ⌜ (readOf (now snapshot) .refusal ≡ 0) × (0 < budget) ⌝ }
-    ensures { λ r. ⌜ Advances (now (snapshot .entry)) (now (program .entry)) (now («data» .entry)) offer budget r (now (snapshot .exit)) (now («data» .exit)) ⌝ }
+    ensures { λ r. ⌜ Advances (now (snapshot .entry)) (now (program0 .entry)) (now («data» .entry)) offer budget r (now (snapshot .exit)) (now («data» .exit)) ⌝ }
 {
+    // a slice of its own stays in registers
+    let program = &program0[0..];
     let on = offered(offer);
     let mut at: u32 = 0;
     loop {

@@ -1,10 +1,12 @@
 -- `advance`: the rest of the run from where the loop stands is the whole run, with the ticks done added.
 -- Assumes nothing.
-use mathlib.Core.Path.{_≡_, refl, sym, ap, _∙_}
+use mathlib.Core.Path.{_≡_, refl, sym, ap, subst, _∙_}
 use mathlib.Core.List.{List}
 use Prim.Native.Nat.{ℕ, _+_, _-_, _≤_, _<_}
 use native.Mathlib.Omega.{arith}
-use lib.ListN.{length}
+use native.Mathlib.Nat.{sub-zero}
+use lib.ListN.{length, take, drop}
+use lib.Seq.{take-all}
 use borrow.Author.Needs.{needs}
 use Rattle.basis.specs.Bytes.{Bytes}
 use Rattle.tick.specs.Tick.{Tick, numberOf, refuses, stops}
@@ -12,7 +14,7 @@ use Rattle.tick.specs.declared.Offer.{Offer}
 use Rattle.tick.specs.declared.Answer.{Answer}
 use Rattle.snapshot.specs.Snapshot.{readOf}
 use Rattle.invariants.specs.Ticks.{Offered}
-use Rattle.run.specs.Over.{tickOver, TickedOver, restOver, runOver}
+use Rattle.run.specs.Over.{tickOver, TickedOver, Stretches, restOver, runOver}
 use Rattle.run.proofs.Unroll.{begun}
 use Rattle.run.proofs.Stretched.{long}
 use Rattle.run.proofs.Offers.{offer-in-range}
@@ -21,17 +23,21 @@ use Rattle.run.proofs.over.advance.Statement.{statement}
 use Rattle.run.proofs.over.advance.Tie as tie
 
 abbrev Inv-loop : tie.InvT-loop
-Inv-loop snapshot₀ program data₀ offer budget on at₀ snapshot «data» at =
+Inv-loop snapshot₀ program0 data₀ offer budget program on at₀ snapshot «data» at =
     (at < budget) × ((length snapshot ≡ length snapshot₀) × ((length «data» ≡ length data₀)
-    × ((readOf snapshot .refusal ≡ 0) × (runOver budget snapshot₀ program data₀ offer ≡ restOver budget at snapshot program «data» offer))))
+    × ((readOf snapshot .refusal ≡ 0) × (runOver budget snapshot₀ program0 data₀ offer ≡ restOver budget at snapshot program0 «data» offer))))
 
 abbrev μ-loop : tie.MeasureT-loop
-μ-loop snapshot₀ program data₀ offer budget on at₀ snapshot «data» at = budget - at
+μ-loop snapshot₀ program0 data₀ offer budget program on at₀ snapshot «data» at = budget - at
+
+-- the part of a program from its first byte
+all : (p : List ℕ) → take (length p - 0) (drop 0 p) ≡ p
+all p = rw sub-zero (take-all (length p) p (omega arith))
 
 -- where a stretch ended: c is the place behind it
 module _ (c : tie.After-slice-known4 Inv-loop μ-loop) where
   abbrev start : tie.Start Inv-loop μ-loop
-  start = c .before .before .before .before .before .before .before .before .before .before .before .before
+  start = c .before .before .before .before .before .before .before .before .before .before .before .before .before
 
   abbrev s₀ : List ℕ
   s₀ = start .args .snapshot .now
@@ -40,7 +46,7 @@ module _ (c : tie.After-slice-known4 Inv-loop μ-loop) where
   m₀ = start .args .«data» .now
 
   abbrev p : List ℕ
-  p = start .args .program .now
+  p = start .args .program0 .now
 
   abbrev o : Offer
   o = start .args .offer
@@ -57,17 +63,20 @@ module _ (c : tie.After-slice-known4 Inv-loop μ-loop) where
   abbrev done : ℕ
   done = c .before .before .before .before .stretch .result
 
+  went : Stretches (c .before .before .before .before .before .before .before .loop .snapshot) p (c .before .before .before .before .before .before .before .loop .«data») (c .before .before .before .before .before .before .before .before .offered .result) (c .before .before .before .before .before .before .before .loop .at) b done s m
+  went = subst (λ (x : List ℕ). Stretches (c .before .before .before .before .before .before .before .loop .snapshot) x (c .before .before .before .before .before .before .before .loop .«data») (c .before .before .before .before .before .before .before .before .offered .result) (c .before .before .before .before .before .before .before .loop .at) b done s m) (all p) (c .before .before .before .before .stretch .ensures)
+
   stands : runOver b s₀ p m₀ o ≡ restOver b done s p m o
-  stands = c .before .before .before .before .before .before .before .loop .inv .1 .1 .1 .1 ∙ c .before .before .before .before .stretch .ensures .rest o (sym (c .before .before .before .before .before .before .before .before .offered .ensures))
+  stands = c .before .before .before .before .before .before .before .loop .inv .1 .1 .1 .1 ∙ went .rest o (sym (c .before .before .before .before .before .before .before .before .offered .ensures))
 
   onward : c .before .before .before .before .before .before .before .loop .at ≤ done
-  onward = c .before .before .before .before .stretch .ensures .onward
+  onward = went .onward
 
   bounded : done ≤ b
-  bounded = c .before .before .before .before .stretch .ensures .bounded
+  bounded = went .bounded
 
   read : readOf s .refusal ≡ 0
-  read = c .before .before .before .before .stretch .ensures .read
+  read = went .read
 
   begins : length s₀ ≡ 38
   begins = long s₀ (start .pre .0)
@@ -85,7 +94,7 @@ module _ (c : tie.After-slice-known4 Inv-loop μ-loop) where
   data-bytes = record { byte-lt = λ i. omega (arith, c .slice-known4 .given i) }
 
   program-bytes : Bytes p
-  program-bytes = record { byte-lt = λ i. omega (arith, c .before .before .before .before .before .before .before .before .before .before .shared-slice-known .given i) }
+  program-bytes = record { byte-lt = λ i. omega (arith, c .before .before .before .before .before .before .before .before .before .before .before .shared-slice-known .given i) }
 
   vector : Offered o
   vector = offer-in-range o (start .good .1 .1 .1 .0)
@@ -108,7 +117,7 @@ module _ (c : tie.After-number Inv-loop μ-loop) where
   m' = c .before .before .before .before .before .whole .last .1 .1 .0
 
   ticked : TickedOver (s here) (p here) (m here) (o here) answer s' m'
-  ticked = c .before .before .before .before .before .whole .ensures
+  ticked = subst (λ (x : List ℕ). TickedOver (s here) x (m here) (o here) answer s' m') (all (p here)) (c .before .before .before .before .before .whole .ensures)
 
   numbered : c .number .result ≡ numberOf (t .answer)
   numbered = c .number .ensures ∙ ap numberOf (ticked .answer)
@@ -176,8 +185,11 @@ advance-spec =
     (tie.spec
     Inv-loop
     μ-loop
+    (λ c. search needs)
+    (λ c. search needs)
+    (λ c. search needs)
     (λ c κs. search needs)
-    (λ c. let start = c .before .before .before .before in (start .pre .1, (refl, (refl, (start .pre .0, begun _ _ _ _ _)))))
+    (λ c. let start = c .before .before .before .before .before in (start .pre .1, (refl, (refl, (start .pre .0, begun _ _ _ _ _)))))
     (λ c κs. let l = c .before .before .loop in (l .inv .1 .1 .1 .0, l .inv .0))
     (λ c κs. search needs)
     (λ c. same-snapshot (c .before .before))
