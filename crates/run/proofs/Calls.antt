@@ -3,7 +3,7 @@
 use mathlib.Core.Path.{_≡_, refl, sym, ap, _∙_}
 use mathlib.Core.Logic.{inl, inr}
 use mathlib.Core.Bool.{Bool, true, false, not}
-use mathlib.Core.List.{List, [], _∷_, _++_}
+use mathlib.Core.List.{List, [], _∷_}
 use Prim.Native.Nat.{ℕ, zero, suc, _+_, _*_, _-_, _/_, _%_, _<_, _≤_}
 use native.Mathlib.Omega.{arith}
 use lib.Dec.{eqb, ltb}
@@ -14,7 +14,7 @@ use Rattle.basis.specs.Bit.{one}
 use Rattle.basis.specs.Bytes.{Bytes}
 use Rattle.basis.proofs.Choice.{clash}
 use Rattle.cores.specs.declared.Core.{Core}
-use Rattle.cores.specs.State.{withBusy, Sound}
+use Rattle.cores.specs.State.{withBusy}
 use Rattle.tick.specs.Tick.{Tick, numberOf, refuses, stops, tickOf}
 use Rattle.tick.specs.declared.Offer.{Offer}
 use Rattle.tick.proofs.Steps.{busy-tick}

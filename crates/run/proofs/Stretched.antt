@@ -1,7 +1,7 @@
 -- A stretch over a snapshot: the core that its bytes say, in parts, and the core that is left in them.
 -- Assumes nothing.
 use mathlib.Core.Path.{_≡_, refl, sym, ap, _∙_}
-use mathlib.Core.Bool.{Bool, true, false}
+use mathlib.Core.Bool.{Bool}
 use mathlib.Core.List.{List, [], _∷_, _++_}
 use Prim.Native.Nat.{ℕ, zero, suc, _+_, _*_, _-_, _/_, _%_, _<_, _≤_}
 use native.Mathlib.Omega.{arith}
@@ -18,9 +18,9 @@ use Rattle.cores.specs.State.{freshOf, withRegs, withSp, withPc, withBusy, with
 use Rattle.tick.specs.declared.Offer.{Offer}
 use Rattle.effects.specs.Parts.{stood, cored}
 use Rattle.snapshot.specs.Snapshot.{bytesOf, coreOf, readOf}
-use Rattle.snapshot.proofs.RoundTrips.{Reads, reads, read-is, read-back, at-tail}
+use Rattle.snapshot.proofs.RoundTrips.{reads, read-is, read-back, at-tail}
 use Rattle.snapshot.proofs.Fields.{busy-read}
-use Rattle.run.specs.Run.{Run, after, runOf}
+use Rattle.run.specs.Run.{after, runOf}
 use Rattle.run.specs.Lent.{offers, restOf, wentTo, Goes}
 use Rattle.run.specs.declared.go.Gone.{Gone}
 use Rattle.run.specs.Settling.{wordAt, six}
@@ -147,7 +147,7 @@ module _ (s p m : List ℕ) (on : Bool) (at b : ℕ) (g : Gone) (rs m' : List �
     stretched {done} {s'} d e =
         let read : readOf s' ≡ record { refusal = 0; core = waiting } = ap readOf e ∙ left-read in
         let between : (at ≤ done) × (done ≤ b) =
-            rw d (cases (λ (x : ℕ). (at ≤ x) × (x ≤ b)) (ltb (g .at) b) (g .at) b (λ t. (omega (arith, w .onward), omega (arith, ltb-true (g .at) b t))) (λ t. (omega arith, omega arith))) in
+        rw d (cases (λ (x : ℕ). (at ≤ x) × (x ≤ b)) (ltb (g .at) b) (g .at) b (λ t. (omega (arith, w .onward), omega (arith, ltb-true (g .at) b t))) (λ t. (omega arith, omega arith))) in
         record {
           read = ap (λ r. r .refusal) read;
           onward = between .0;

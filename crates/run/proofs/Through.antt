@@ -1,10 +1,9 @@
 -- A run of a core through its snapshot.
 -- Assumes nothing.
-use mathlib.Core.Path.{_≡_, refl, sym, ap, _∙_}
+use mathlib.Core.Path.{_≡_, refl, ap, _∙_}
 use mathlib.Core.Bool.{Bool, true, false}
 use mathlib.Core.List.{List}
 use Prim.Native.Nat.{ℕ, zero, suc, _<_}
-use native.Mathlib.Omega.{arith}
 use lib.ListN.{length}
 use borrow.Author.Tests.{eq-eqb, lt-ltb}
 use Rattle.basis.specs.Bytes.{Bytes}
@@ -70,7 +69,7 @@ module _ (b : ℕ) (k : Core) (z s p m : List ℕ) (o : Offer) (h : Sound k) (l 
       let is = run-in-passed s p m o b (eq-eqb (readOf s .refusal) 0 none) in
       let left : s' ≡ writeOf (runOf b k p m o .core) s .bytes = w .snapshot ∙ ap (λ x. x .snapshot) is ∙ ap (λ (x : Run). writeOf (x .core) s .bytes) run in
       let back : readOf s' ≡ record { refusal = 0; core = runOf b k p m o .core } =
-          ap readOf left ∙ reading-undoes-writing (runOf b k p m o .core) s (run-sound b k p m o h bp bm f) (long s none) in
+      ap readOf left ∙ reading-undoes-writing (runOf b k p m o .core) s (run-sound b k p m o h bp bm f) (long s none) in
       record {
         answer = ap (λ x. x .answer) c ∙ w .answer ∙ ap (λ x. x .answer) is ∙ ap (λ (x : Run). x .answer) run;
         count = ap (λ x. x .ticks) c ∙ w .count ∙ ap (λ x. x .count) is ∙ ap (λ (x : Run). x .count) run;

@@ -1,9 +1,9 @@
 -- One turn of a run over a snapshot: a stretch, then a whole tick.
 -- Assumes nothing.
 use mathlib.Core.Path.{_≡_, refl, sym, ap, _∙_}
-use mathlib.Core.Bool.{Bool, true, false}
-use mathlib.Core.List.{List, _++_}
-use Prim.Native.Nat.{ℕ, _+_, _-_, _*_, _/_, _<_, _≤_}
+use mathlib.Core.Bool.{true, false}
+use mathlib.Core.List.{List}
+use Prim.Native.Nat.{ℕ, _+_, _-_, _<_, _≤_}
 use native.Mathlib.Omega.{arith}
 use lib.ListN.{getD, take, drop, length, take-append-drop}
 use lib.Seq.{length-take-le}
@@ -21,7 +21,7 @@ use Rattle.tick.specs.declared.Offer.{Offer}
 use Rattle.tick.specs.declared.Answer.{Answer}
 use Rattle.invariants.specs.Ticks.{Offered}
 use Rattle.invariants.proofs.Ticks.{ticks-stay-in-range}
-use Rattle.snapshot.specs.Snapshot.{coreOf, wrote, readOf, writeOf}
+use Rattle.snapshot.specs.Snapshot.{coreOf, readOf, writeOf}
 use Rattle.snapshot.proofs.RoundTrips.{written, reading-undoes-writing, writing-undoes-reading}
 use Rattle.run.specs.Run.{Run, ended, after, runOf}
 use Rattle.run.specs.Over.{saidBy, tickOver, restOver, runOver, endedBy, Advances}

@@ -1,6 +1,5 @@
 -- Runs over a snapshot. s are the bytes of a snapshot, p is a program, m the bytes of data, o an offer, b a budget; s' and m' are what the code leaves of s and m.
 use mathlib.Core.Path.{_≡_}
-use mathlib.Core.Logic.{_⊎_}
 use mathlib.Core.Bool.{Bool, _&&_}
 use mathlib.Core.List.{List}
 use Prim.Native.Nat.{ℕ, _-_, _≤_}
@@ -10,7 +9,6 @@ use Rattle.cores.specs.declared.Core.{Core}
 use Rattle.tick.specs.Tick.{Tick, numberOf, tickOf}
 use Rattle.tick.specs.declared.Offer.{Offer}
 use Rattle.tick.specs.declared.Answer.{Answer}
-use Rattle.tick.specs.declared.Answer.the-variants.{Ran}
 use Rattle.snapshot.specs.Snapshot.{readOf, writeOf}
 use Rattle.run.specs.Run.{Run, after, runOf}
 use Rattle.run.specs.Lent.{offers}

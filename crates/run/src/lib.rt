@@ -20,6 +20,7 @@ pub struct Ran {
 }
 
 const BUDGET: u8 = 24;
+
 const TOO_BUSY: u8 = 5;
 
 pub fn run(core: Core, program: &[u8], data: &mut [u8], offer: Offer, budget: u32) -> Ran

@@ -1,10 +1,10 @@
 // Runs over a snapshot, changed where it lies: `go` takes the plain instructions, and what it leaves is a whole tick.
-use tick::Answer;
-use tick::Offer;
 use crate::go::go;
 use crate::settling::flags;
 use crate::settling::leave;
 use crate::settling::word_at;
+use tick::Answer;
+use tick::Offer;
 ghost use mathlib.Core.Path.{_≡_};
 ghost use Prim.Native.Nat.{_<_};
 ghost use Rattle.snapshot.specs.Snapshot.{readOf};
@@ -18,7 +18,9 @@ pub struct Over {
 }
 
 const WAITED: u8 = 16;
+
 const RAN: u8 = 18;
+
 const BUDGET: u8 = 24;
 
 fn offered(offer: Offer) -> bool
@@ -42,7 +44,14 @@ fn whole(snapshot: &mut [u8], program: &[u8], data: &mut [u8], offer: Offer) -> 
 }
 
 // A stretch from the tick `at`, the core's waits before it: the ticks then done, at most the budget.
-fn stretch(snapshot: &mut [u8], program: &[u8], data: &mut [u8], on: bool, at: u32, budget: u32) -> u32
+fn stretch(
+    snapshot: &mut [u8],
+    program: &[u8],
+    data: &mut [u8],
+    on: bool,
+    at: u32,
+    budget: u32,
+) -> u32
     requires { ⌜ (readOf (now snapshot) .refusal ≡ 0) × (at < budget) ⌝ }
     ensures { λ r. ⌜ Stretches (now (snapshot .entry)) (now (program .entry)) (now («data» .entry)) on at budget r (now (snapshot .exit)) (now («data» .exit)) ⌝ }
 {
@@ -54,9 +63,31 @@ fn stretch(snapshot: &mut [u8], program: &[u8], data: &mut [u8], on: bool, at: u
     let in_service = last / 8 % 2 == 1;
     let chip = last / 4 % 2 == 1;
     let begin = at as u64 + (last / 32) as u64;
-    let gone = go(&mut snapshot[..32], pc, sp, sreg, inhibit, in_service, chip, begin, program, data, on, budget);
+    let gone = go(
+        &mut snapshot[..32],
+        pc,
+        sp,
+        sreg,
+        inhibit,
+        in_service,
+        chip,
+        begin,
+        program,
+        data,
+        on,
+        budget,
+    );
     let rest = flags(gone.inhibit, gone.in_service, chip);
-    leave(snapshot, gone.sreg, gone.pc, gone.sp, sp, rest, gone.at, budget)
+    leave(
+        snapshot,
+        gone.sreg,
+        gone.pc,
+        gone.sp,
+        sp,
+        rest,
+        gone.at,
+        budget,
+    )
 }
 
 // A run of at least one tick, where the bytes are read.
@@ -92,10 +123,7 @@ fn advance(snapshot: &mut [u8], program0: &[u8], data: &mut [u8], offer: Offer, 
 fn told(answer: u8, ticks: u32) -> Over
     ensures { λ r. ⌜ r ≡ record { answer = answer; ticks = ticks } ⌝ }
 {
-    Over {
-        answer,
-        ticks,
-    }
+    Over { answer, ticks }
 }
 
 // A run's answer, by its last tick's.
@@ -105,11 +133,7 @@ fn ended_by(answer: u8) -> u8
     if answer < 16 {
         return answer;
     }
-    if answer < 22 {
-        BUDGET
-    } else {
-        answer
-    }
+    if answer < 22 { BUDGET } else { answer }
 }
 
 // Checks 7, 8 and 9; 0 where they are passed.
@@ -146,7 +170,13 @@ pub fn tick_in(snapshot: &mut [u8], program: &[u8], data: &mut [u8], offer: Offe
 }
 
 // A run: its answer and its count, or a check's number, which no run answers, and 0.
-pub fn run_in(snapshot: &mut [u8], program: &[u8], data: &mut [u8], offer: Offer, budget: u32) -> Over
+pub fn run_in(
+    snapshot: &mut [u8],
+    program: &[u8],
+    data: &mut [u8],
+    offer: Offer,
+    budget: u32,
+) -> Over
     ensures { λ r. ⌜ RunsIn (runIn (now (snapshot .entry)) (now (program .entry)) (now («data» .entry)) offer budget) r (now (snapshot .exit)) (now («data» .exit)) ⌝ }
 {
     let refusal = refused(snapshot);

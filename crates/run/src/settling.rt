@@ -53,14 +53,30 @@ fn settle(snapshot: &mut [u8], sreg: u8, pc: u16, sp: u16, before: u16, last: u8
 }
 
 // Where a stretch ended at the tick `at`: the ticks done, at most the budget. What is above the budget are waits.
-pub(crate) fn leave(snapshot: &mut [u8], sreg: u8, pc: u16, sp: u16, before: u16, rest: u8, at: u64, budget: u32) -> u32
+pub(crate) fn leave(
+    snapshot: &mut [u8],
+    sreg: u8,
+    pc: u16,
+    sp: u16,
+    before: u16,
+    rest: u8,
+    at: u64,
+    budget: u32,
+) -> u32
     requires { ⌜ (length (now snapshot) ≡ 38) × (before ≡ wordAt (now snapshot) 35) ⌝ }
     requires { ⌜ (rest ≤ 28) × (at ≤ budget + 4) ⌝ }
     ensures { λ _. ⌜ now (snapshot .exit) ≡ take 32 (now (snapshot .entry)) ++ six sreg pc sp ((at - budget) * 32 + rest) ⌝ }
     ensures { λ r. ⌜ r ≡ pick (ltb at budget) at budget ⌝ }
 {
     if at >= budget as u64 {
-        settle(snapshot, sreg, pc, sp, before, (at - budget as u64) as u8 * 32 + rest);
+        settle(
+            snapshot,
+            sreg,
+            pc,
+            sp,
+            before,
+            (at - budget as u64) as u8 * 32 + rest,
+        );
         return budget;
     }
     settle(snapshot, sreg, pc, sp, before, rest);

@@ -2,7 +2,7 @@
 -- Assumes nothing.
 use mathlib.Core.Path.{_≡_, refl, sym, ap, subst, _∙_}
 use mathlib.Core.List.{List}
-use Prim.Native.Nat.{ℕ, _+_, _-_, _≤_, _<_}
+use Prim.Native.Nat.{ℕ, _-_, _≤_, _<_}
 use native.Mathlib.Omega.{arith}
 use native.Mathlib.Nat.{sub-zero}
 use lib.ListN.{length, take, drop}
@@ -134,9 +134,9 @@ module _ (c : tie.After-number Inv-loop μ-loop) where
 returns : tie.Need-returns Inv-loop μ-loop
 returns c =
     let h = c .before .before in
-    let all = c .before .if1 .taken in
+    let spent = c .before .if1 .taken in
     ends-spent (b h) (done h) (s₀ h) (p h) (m₀ h) (s h) (m h) (o h) (begins h) (stands h) (read h) (snapshot-bytes h) (c .told .result)
-    (ap (λ a. a .answer) (c .told .ensures)) (ap (λ a. a .ticks) (c .told .ensures) ∙ sym all) (omega (arith, all))
+    (ap (λ a. a .answer) (c .told .ensures)) (ap (λ a. a .ticks) (c .told .ensures) ∙ sym spent) (omega (arith, spent))
 
 returns-2 : tie.Need-returns-2 Inv-loop μ-loop
 returns-2 c =
@@ -176,7 +176,7 @@ loop-again c =
     let more = c .if4 .left in
     let next = next-read (s h) (p h) (m h) (o h) (read h) (snapshot-bytes h) (program-bytes h) (data-bytes h) (vector h) (ticked w .snapshot) in
     let rest = goes-on (b h) (done h) (s₀ h) (p h) (m₀ h) (s h) (m h) (o h) (begins h) (stands h) (read h) (snapshot-bytes h)
-        (program-bytes h) (data-bytes h) (vector h) (ticked w .snapshot) (ticked w .bytes) (near w) went on in
+    (program-bytes h) (data-bytes h) (vector h) (ticked w .snapshot) (ticked w .bytes) (near w) went on in
     (omega (arith, near w, more), (same-snapshot-2 w, (same-data-2 w, (ap (λ r. r .refusal) next, rest))))
 
 pub advance-spec : {M : Type 1} → statement M
