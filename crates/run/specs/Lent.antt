@@ -4,7 +4,7 @@ use mathlib.Core.Path.{_≡_}
 use mathlib.Core.Logic.{_⊎_}
 use mathlib.Core.Bool.{Bool, true, false}
 use mathlib.Core.List.{List}
-use Prim.Native.Nat.{ℕ, _+_, _-_, _≤_}
+use Prim.Native.Nat.{ℕ, _+_, _-_, _≤_, _<_}
 use lib.Dec.{ltb}
 use Rattle.basis.specs.Pick.{pick}
 use Rattle.cores.specs.declared.Core.{Core}
@@ -34,4 +34,4 @@ pub record Goes (k : Core) (at : ℕ) (p m : List ℕ) (offered chip : Bool) (b 
   pub onward : at ≤ g .at
   pub bounded : at ≤ b + 4 → g .at ≤ b + 4
   pub rest : (o : Offer) → offers o ≡ offered → restOf b at k p m o ≡ restOf b (g .at) (wentTo rs' g chip) p m' o
-  pub first : (o : Offer) → offers o ≡ offered → ((g .at ≡ at) × ((wentTo rs' g chip ≡ k) × (m' ≡ m))) ⊎ (tickOf k p m o .answer ≡ Ran)
+  pub first : (o : Offer) → offers o ≡ offered → ((g .at ≡ at) × ((wentTo rs' g chip ≡ k) × (m' ≡ m))) ⊎ ((at < g .at) × (tickOf k p m o .answer ≡ Ran))

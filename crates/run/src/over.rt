@@ -166,7 +166,7 @@ pub fn tick_in(snapshot: &mut [u8], program: &[u8], data: &mut [u8], offer: Offe
         snapshot[37] = last - 32;
         return WAITED;
     }
-    tick::number(whole(snapshot, program, data, offer))
+    advance(snapshot, program, data, offer, 1).answer
 }
 
 // A run: its answer and its count, or a check's number, which no run answers, and 0.
