@@ -3,7 +3,7 @@
 use mathlib.Core.Path.{_≡_, refl, sym, ap, _∙_}
 use mathlib.Core.Logic.{inl, inr}
 use mathlib.Core.Bool.{Bool, true, false, not}
-use mathlib.Core.List.{List, [], _∷_, _++_}
+use mathlib.Core.List.{List, [], _∷_}
 use Prim.Native.Nat.{ℕ, zero, suc, _+_, _*_, _-_, _/_, _%_, _<_, _≤_}
 use native.Mathlib.Omega.{arith}
 use lib.Dec.{eqb, ltb}
@@ -14,7 +14,7 @@ use Rattle.basis.specs.Bit.{one}
 use Rattle.basis.specs.Bytes.{Bytes}
 use Rattle.basis.proofs.Choice.{clash}
 use Rattle.cores.specs.declared.Core.{Core}
-use Rattle.cores.specs.State.{withBusy, Sound}
+use Rattle.cores.specs.State.{withBusy}
 use Rattle.tick.specs.Tick.{Tick, numberOf, refuses, stops, tickOf}
 use Rattle.tick.specs.declared.Offer.{Offer}
 use Rattle.tick.proofs.Steps.{busy-tick}
@@ -22,13 +22,23 @@ use Rattle.invariants.specs.Ticks.{TickNumber}
 use Rattle.invariants.proofs.Ticks.{ticks-answer-tick-numbers}
 use Rattle.snapshot.specs.Snapshot.{bytesOf, coreOf, refusedRead, readOf, writeOf}
 use Rattle.snapshot.proofs.RoundTrips.{at-tail, bytes-back, written, writing-undoes-reading}
-use Rattle.run.specs.Run.{Run, ran, runOf}
+use Rattle.run.specs.Run.{Run, spent, ran, runOf}
 use Rattle.run.specs.Over.{saidBy, tickOver, runOver, endedBy, Advances, tickIn, TicksIn, runIn, RunsIn, ofCheck}
 use Rattle.run.specs.declared.over.Over.{Over}
 use Rattle.run.proofs.Unroll.{step}
 use Rattle.run.proofs.Six.{stored}
 use Rattle.run.proofs.Stretched.{long, brief, said-busy}
 use Rattle.run.proofs.Turns.{said-sound}
+
+-- core and data of a run of one tick are the tick's
+step-one : (r s : Bool) (t : Tick) → (step r s t (spent (t .core) (t .bytes)) .core ≡ t .core) × (step r s t (spent (t .core) (t .bytes)) .bytes ≡ t .bytes)
+step-one true s t = (refl, refl)
+step-one false true t = (refl, refl)
+step-one false false t = (refl, refl)
+
+one-tick : (k : Core) (p m : List ℕ) (o : Offer) → (runOf 1 k p m o .core ≡ tickOf k p m o .core) × (runOf 1 k p m o .bytes ≡ tickOf k p m o .bytes)
+unfolding ran
+one-tick k p m o = let t = tickOf k p m o in step-one (refuses (t .answer)) (stops (t .answer)) t
 
 module _ (s p m : List ℕ) (o : Offer) where
   module _ (h : readOf s .refusal ≡ 0 → ⊥) where
@@ -42,6 +52,12 @@ module _ (s p m : List ℕ) (o : Offer) where
     pub tick-passed : {n : ℕ} {s' m' : List ℕ} → n ≡ numberOf (tickOver s p m o .answer) → s' ≡ writeOf (tickOver s p m o .core) s .bytes → m' ≡ tickOver s p m o .bytes
         → TicksIn (tickIn s p m o) n s' m'
     tick-passed e f g = rw (eq-eqb (readOf s .refusal) 0 h) (record { number = e; snapshot = f; bytes = g })
+
+    -- a run of one tick of a core that does not wait
+    pub tick-advanced : (x : Over) {s' m' : List ℕ} → Advances s p m o 1 x s' m' → saidBy s .busy ≡ 0 → TicksIn (tickIn s p m o) (x .answer) s' m'
+    tick-advanced x w f =
+        let e = one-tick (saidBy s) p m o in
+        tick-passed (w .one refl f) (w .snapshot ∙ ap (λ (k : Core). writeOf k s .bytes) (e .0)) (w .bytes ∙ e .1)
 
     pub run-passed : (b : ℕ) (x a : Over) {s' m' : List ℕ} → Advances s p m o b x s' m' → a .answer ≡ endedBy (x .answer) → a .ticks ≡ x .ticks → RunsIn (runIn s p m o b) a s' m'
     run-passed b x a w e c =

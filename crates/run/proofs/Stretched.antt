@@ -1,32 +1,35 @@
 -- A stretch over a snapshot: the core that its bytes say, in parts, and the core that is left in them.
 -- Assumes nothing.
 use mathlib.Core.Path.{_≡_, refl, sym, ap, _∙_}
-use mathlib.Core.Bool.{Bool, true, false}
+use mathlib.Core.Logic.{_⊎_, inl, inr}
+use mathlib.Core.Bool.{Bool}
 use mathlib.Core.List.{List, [], _∷_, _++_}
 use Prim.Native.Nat.{ℕ, zero, suc, _+_, _*_, _-_, _/_, _%_, _<_, _≤_}
 use native.Mathlib.Omega.{arith}
 use lib.Dec.{eqb, ltb}
 use lib.ListN.{getD, take, drop, length, length-append, length-drop, take-append-drop}
 use lib.Seq.{take-at, length-take-le}
-use borrow.Author.Tests.{eqb-true, ltb-true, ltb-false}
+use borrow.Author.Tests.{eqb-true, lt-ltb, ltb-true, ltb-false}
 use Rattle.basis.specs.Pick.{pick}
 use Rattle.basis.specs.Bit.{one}
 use Rattle.basis.specs.Bytes.{Bytes}
 use Rattle.basis.proofs.Choice.{test, cases}
 use Rattle.cores.specs.declared.Core.{Core}
 use Rattle.cores.specs.State.{freshOf, withRegs, withSp, withPc, withBusy, withInhibit, withService, withChip, Sound}
+use Rattle.tick.specs.Tick.{tickOf}
 use Rattle.tick.specs.declared.Offer.{Offer}
+use Rattle.tick.specs.declared.Answer.the-variants.{Ran}
 use Rattle.effects.specs.Parts.{stood, cored}
 use Rattle.snapshot.specs.Snapshot.{bytesOf, coreOf, readOf}
-use Rattle.snapshot.proofs.RoundTrips.{Reads, reads, read-is, read-back, at-tail}
+use Rattle.snapshot.proofs.RoundTrips.{reads, read-is, read-back, at-tail}
 use Rattle.snapshot.proofs.Fields.{busy-read}
-use Rattle.run.specs.Run.{Run, after, runOf}
+use Rattle.run.specs.Run.{after, runOf}
 use Rattle.run.specs.Lent.{offers, restOf, wentTo, Goes}
 use Rattle.run.specs.declared.go.Gone.{Gone}
 use Rattle.run.specs.Settling.{wordAt, six}
-use Rattle.run.specs.Over.{saidBy, restOver, Stretches}
+use Rattle.run.specs.Over.{saidBy, tickOver, restOver, Stretches}
 use Rattle.run.proofs.Unroll.{unroll-spent}
-use Rattle.run.proofs.Waits.{waits-out}
+use Rattle.run.proofs.Waits.{waits-out, busy-kept}
 
 -- ---- a snapshot that is read
 -- a flag of the last byte
@@ -143,6 +146,25 @@ module _ (s p m : List ℕ) (on : Bool) (at b : ℕ) (g : Gone) (rs m' : List �
         ∙ rest-done b (g .at) (wentTo rs g (flagAt s 4)) p m' o went-free
         ∙ (let done = pick (ltb (g .at) b) (g .at) b in ap (λ (k : Core). after done (runOf (b - done) k p m' o)) went-waits)
 
+    -- a core that did not wait: untouched, or its first tick was a plain instruction
+    first-tick : (o : Offer) → offers o ≡ on → saidBy s .busy ≡ 0
+        → (let done = pick (ltb (g .at) b) (g .at) b in ((done ≡ at) × ((waiting ≡ saidBy s) × (m' ≡ m))) ⊎ ((at < done) × (tickOver s p m o .answer ≡ Ran)))
+    first-tick o e f =
+        let none : getD s 37 0 / 32 ≡ 0 = sym (said-busy s h) ∙ f in
+        let begun : begins s ≡ saidBy s = sym (said-begins s h) ∙ busy-kept (saidBy s) 0 f in
+        elim (w .first o e) [
+          | inl u ↦
+              let same : g .at ≡ at = omega (arith, u .0, none) in
+              let short = lt-ltb (g .at) b (omega (arith, same, l)) in
+              let spare : g .at - b ≡ 0 = omega (arith, same, l) in
+              inl (rw short same, (sym went-waits ∙ ap (withBusy (wentTo rs g (flagAt s 4))) spare ∙ busy-kept (wentTo rs g (flagAt s 4)) 0 went-free ∙ u .1 .0 ∙ begun, u .1 .1))
+          | inr u ↦
+              inr (
+                cases (λ (d : ℕ). at < d) (ltb (g .at) b) (g .at) b (λ t. omega (arith, u .0)) (λ t. omega (arith, l)),
+                ap (λ (k : Core). tickOf k p m o .answer) (sym begun) ∙ u .1,
+              )
+        ]
+
     pub stretched : {done : ℕ} {s' : List ℕ} → done ≡ pick (ltb (g .at) b) (g .at) b → s' ≡ leftIn → Stretches s p m on at b done s' m'
     stretched {done} {s'} d e =
         let read : readOf s' ≡ record { refusal = 0; core = waiting } = ap readOf e ∙ left-read in
@@ -153,4 +175,5 @@ module _ (s p m : List ℕ) (on : Bool) (at b : ℕ) (g : Gone) (rs m' : List �
           onward = between .0;
           bounded = between .1;
           rest = λ o t. rest-left o t ∙ rw (← d, ← ap (λ r. r .core) read);
+          first = λ o t u. rw (d, ap (λ r. r .core) read) (first-tick o t u);
         }

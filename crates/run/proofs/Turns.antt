@@ -1,9 +1,9 @@
 -- One turn of a run over a snapshot: a stretch, then a whole tick.
 -- Assumes nothing.
 use mathlib.Core.Path.{_≡_, refl, sym, ap, _∙_}
-use mathlib.Core.Bool.{Bool, true, false}
-use mathlib.Core.List.{List, _++_}
-use Prim.Native.Nat.{ℕ, _+_, _-_, _*_, _/_, _<_, _≤_}
+use mathlib.Core.Bool.{true, false}
+use mathlib.Core.List.{List}
+use Prim.Native.Nat.{ℕ, _+_, _-_, _<_, _≤_}
 use native.Mathlib.Omega.{arith}
 use lib.ListN.{getD, take, drop, length, take-append-drop}
 use lib.Seq.{length-take-le}
@@ -19,9 +19,10 @@ use Rattle.tick.specs.Tick.{Tick, numberOf, refuses, stops, answerOf, tickOf}
 use Rattle.tick.proofs.Steps.{every-tick, performed}
 use Rattle.tick.specs.declared.Offer.{Offer}
 use Rattle.tick.specs.declared.Answer.{Answer}
+use Rattle.tick.specs.declared.Answer.the-variants.{Ran}
 use Rattle.invariants.specs.Ticks.{Offered}
 use Rattle.invariants.proofs.Ticks.{ticks-stay-in-range}
-use Rattle.snapshot.specs.Snapshot.{coreOf, wrote, readOf, writeOf}
+use Rattle.snapshot.specs.Snapshot.{coreOf, readOf, writeOf}
 use Rattle.snapshot.proofs.RoundTrips.{written, reading-undoes-writing, writing-undoes-reading}
 use Rattle.run.specs.Run.{Run, ended, after, runOf}
 use Rattle.run.specs.Over.{saidBy, tickOver, restOver, runOver, endedBy, Advances}
@@ -96,38 +97,44 @@ module _ (b n : ℕ) (s₀ p m₀ s m : List ℕ) (o : Offer) (l : length s₀ �
   abbrev t : Tick
   t = tickOver s p m o
 
+  -- of one tick: the run stands where it began
+  abbrev First : Type 0
+  First = b ≡ 1 → saidBy s₀ .busy ≡ 0 → (saidBy s ≡ saidBy s₀) × (m ≡ m₀)
+
   -- the budget is spent in a stretch
-  pub ends-spent : (a : Over) → a .answer ≡ 18 → a .ticks ≡ n → b ≤ n → Advances s₀ p m₀ o b a s m
-  ends-spent a e c g =
+  pub ends-spent : (a : Over) → a .answer ≡ 18 → a .ticks ≡ n → b ≤ n → (b ≡ 1 → saidBy s₀ .busy ≡ 0 → tickOver s₀ p m₀ o .answer ≡ Ran) → Advances s₀ p m₀ o b a s m
+  ends-spent a e c g q =
       let r = w ∙ unroll-spent b n (saidBy s) p m o g in
       record {
         answer = rw (e, r);
         count = c ∙ sym (ap (λ x. x .count) r);
         snapshot = sym (ap (λ x. x .bytes) (writing-undoes-reading s s₀ bs h l)) ∙ sym (ap (λ x. writeOf (x .core) s₀ .bytes) r);
         bytes = sym (ap (λ x. x .bytes) r);
+        one = λ x y. e ∙ sym (ap numberOf (q x y));
       }
 
   module _ (bp : Bytes p) (bm : Bytes m) (f : Offered o) {s' m' : List ℕ} (i : s' ≡ writeOf (t .core) s .bytes) (j : m' ≡ t .bytes) where
     -- by a tick
-    ends-by : (a : Over) → a .answer ≡ numberOf (t .answer) → (r : Run) → runOver b s₀ p m₀ o ≡ r → r .core ≡ t .core → r .bytes ≡ t .bytes → kept (t .answer) ≡ r .answer → a .ticks ≡ r .count → Advances s₀ p m₀ o b a s' m'
-    ends-by a e r z x y k c =
+    ends-by : (a : Over) → a .answer ≡ numberOf (t .answer) → First → (r : Run) → runOver b s₀ p m₀ o ≡ r → r .core ≡ t .core → r .bytes ≡ t .bytes → kept (t .answer) ≡ r .answer → a .ticks ≡ r .count → Advances s₀ p m₀ o b a s' m'
+    ends-by a e q r z x y k c =
         record {
           answer = ap endedBy e ∙ ended-kept (saidBy s) p m o ∙ k ∙ sym (ap (λ x. x .answer) z);
           count = c ∙ sym (ap (λ x. x .count) z);
           snapshot = next-into s p m o h bs bp bm f s₀ l i ∙ ap (λ (k' : Core). writeOf k' s₀ .bytes) (sym x) ∙ sym (ap (λ x. writeOf (x .core) s₀ .bytes) z);
           bytes = j ∙ sym y ∙ sym (ap (λ x. x .bytes) z);
+          one = λ u v. e ∙ ap numberOf (ap (λ (k' : Core). tickOf k' p m o .answer) (q u v .0) ∙ ap (λ (x : List ℕ). tickOf (saidBy s₀) p x o .answer) (q u v .1));
         }
 
     module _ (g : n < b) where
-      pub ends-refused : (a : Over) → a .answer ≡ numberOf (t .answer) → refuses (t .answer) ≡ true → a .ticks ≡ n → Advances s₀ p m₀ o b a s' m'
-      ends-refused a e z c = ends-by a e (ended n t) (w ∙ unroll-refused b n (saidBy s) p m o g z) refl refl (rw z) c
+      pub ends-refused : (a : Over) → a .answer ≡ numberOf (t .answer) → First → refuses (t .answer) ≡ true → a .ticks ≡ n → Advances s₀ p m₀ o b a s' m'
+      ends-refused a e v z c = ends-by a e v (ended n t) (w ∙ unroll-refused b n (saidBy s) p m o g z) refl refl (rw z) c
 
-      pub ends-stopped : (a : Over) → a .answer ≡ numberOf (t .answer) → refuses (t .answer) ≡ false → stops (t .answer) ≡ true → a .ticks ≡ n + 1 → Advances s₀ p m₀ o b a s' m'
-      ends-stopped a e z y c = ends-by a e (ended (n + 1) t) (w ∙ unroll-stopped b n (saidBy s) p m o g z y) refl refl (rw (z, y)) c
+      pub ends-stopped : (a : Over) → a .answer ≡ numberOf (t .answer) → First → refuses (t .answer) ≡ false → stops (t .answer) ≡ true → a .ticks ≡ n + 1 → Advances s₀ p m₀ o b a s' m'
+      ends-stopped a e v z y c = ends-by a e v (ended (n + 1) t) (w ∙ unroll-stopped b n (saidBy s) p m o g z y) refl refl (rw (z, y)) c
 
-      pub ends-last : (a : Over) → a .answer ≡ numberOf (t .answer) → refuses (t .answer) ≡ false → stops (t .answer) ≡ false → n + 1 ≡ b → a .ticks ≡ b → Advances s₀ p m₀ o b a s' m'
-      ends-last a e z y q c =
-          ends-by a e (record { answer = 24; count = n + 1; core = t .core; bytes = t .bytes })
+      pub ends-last : (a : Over) → a .answer ≡ numberOf (t .answer) → First → refuses (t .answer) ≡ false → stops (t .answer) ≡ false → n + 1 ≡ b → a .ticks ≡ b → Advances s₀ p m₀ o b a s' m'
+      ends-last a e v z y q c =
+          ends-by a e v (record { answer = 24; count = n + 1; core = t .core; bytes = t .bytes })
           (w ∙ unroll-on b n (saidBy s) p m o g z y ∙ unroll-spent b (n + 1) (t .core) p (t .bytes) o (omega arith)) refl refl (rw (z, y)) (c ∙ sym q)
 
       -- and the rest goes on

@@ -22,7 +22,7 @@ busy-again : (k : Core) (x y : ℕ) → withBusy (withBusy k x) y ≡ withBusy k
 unfolding withBusy
 busy-again k x y = refl
 
-busy-kept : (k : Core) (n : ℕ) → k .busy ≡ n → withBusy k n ≡ k
+pub busy-kept : (k : Core) (n : ℕ) → k .busy ≡ n → withBusy k n ≡ k
 unfolding withBusy
 busy-kept k n e = rw (← e)
 

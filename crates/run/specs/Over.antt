@@ -3,7 +3,7 @@ use mathlib.Core.Path.{_≡_}
 use mathlib.Core.Logic.{_⊎_}
 use mathlib.Core.Bool.{Bool, _&&_}
 use mathlib.Core.List.{List}
-use Prim.Native.Nat.{ℕ, _-_, _≤_}
+use Prim.Native.Nat.{ℕ, _-_, _≤_, _<_}
 use lib.Dec.{eqb, leb, ltb}
 use Rattle.basis.specs.Pick.{pick}
 use Rattle.cores.specs.declared.Core.{Core}
@@ -39,6 +39,7 @@ pub record Stretches (s p m : List ℕ) (on : Bool) (at b done : ℕ) (s' m' : L
   pub onward : at ≤ done
   pub bounded : done ≤ b
   pub rest : (o : Offer) → offers o ≡ on → restOver b at s p m o ≡ restOver b done s' p m' o
+  pub first : (o : Offer) → offers o ≡ on → saidBy s .busy ≡ 0 → ((done ≡ at) × ((saidBy s' ≡ saidBy s) × (m' ≡ m))) ⊎ ((at < done) × (tickOver s p m o .answer ≡ Ran))
 
 -- a run's answer by its last tick's: "24, 22, 23 or that refusal"
 abbrev pub endedBy : ℕ → ℕ
@@ -53,6 +54,7 @@ pub record Advances (s p m : List ℕ) (o : Offer) (b : ℕ) (a : Over) (s' m' :
   pub count : a .ticks ≡ runOver b s p m o .count
   pub snapshot : s' ≡ writeOf (runOver b s p m o .core) s .bytes
   pub bytes : m' ≡ runOver b s p m o .bytes
+  pub one : b ≡ 1 → saidBy s .busy ≡ 0 → a .answer ≡ numberOf (tickOver s p m o .answer)
 
 -- ---- the calls: checks 7, 8 and 9 first, and "a refused call changes no core, no byte of data"
 -- a tick: "The next core is written into the same snapshot; the answer's number is returned."

@@ -91,10 +91,12 @@ fn stretch(
 }
 
 // A run of at least one tick, where the bytes are read.
-fn advance(snapshot: &mut [u8], program: &[u8], data: &mut [u8], offer: Offer, budget: u32) -> Over
+fn advance(snapshot: &mut [u8], program0: &[u8], data: &mut [u8], offer: Offer, budget: u32) -> Over
     requires { ⌜ (readOf (now snapshot) .refusal ≡ 0) × (0 < budget) ⌝ }
-    ensures { λ r. ⌜ Advances (now (snapshot .entry)) (now (program .entry)) (now («data» .entry)) offer budget r (now (snapshot .exit)) (now («data» .exit)) ⌝ }
+    ensures { λ r. ⌜ Advances (now (snapshot .entry)) (now (program0 .entry)) (now («data» .entry)) offer budget r (now (snapshot .exit)) (now («data» .exit)) ⌝ }
 {
+    // a slice of its own stays in registers
+    let program = &program0[0..];
     let on = offered(offer);
     let mut at: u32 = 0;
     loop {
@@ -104,16 +106,17 @@ fn advance(snapshot: &mut [u8], program: &[u8], data: &mut [u8], offer: Offer, b
         }
         let answer = whole(snapshot, program, data, offer);
         let number = tick::number(answer);
+        let next = done + 1;
         if tick::refuses(answer) {
             return told(number, done);
         }
-        at = done + 1;
         if tick::stops(answer) {
-            return told(number, at);
+            return told(number, next);
         }
-        if at == budget {
+        if next == budget {
             return told(number, budget);
         }
+        at = next;
     }
 }
 
@@ -163,7 +166,7 @@ pub fn tick_in(snapshot: &mut [u8], program: &[u8], data: &mut [u8], offer: Offe
         snapshot[37] = last - 32;
         return WAITED;
     }
-    tick::number(whole(snapshot, program, data, offer))
+    advance(snapshot, program, data, offer, 1).answer
 }
 
 // A run: its answer and its count, or a check's number, which no run answers, and 0.

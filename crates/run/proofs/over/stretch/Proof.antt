@@ -1,16 +1,15 @@
 -- `stretch`: the core of the snapshot's bytes to `go`, and what it left into them.
 -- Assumes nothing.
-use mathlib.Core.Path.{_≡_, refl, sym, ap, _∙_}
-use mathlib.Core.List.{List, _++_}
-use Prim.Native.Nat.{ℕ, _+_, _*_, _/_, _%_, _≤_, _<_}
+use mathlib.Core.Path.{_≡_, sym, _∙_}
+use mathlib.Core.List.{List}
+use Prim.Native.Nat.{ℕ, _/_, _%_, _≤_}
 use native.Mathlib.Omega.{arith}
 use lib.Dec.{eqb}
-use lib.ListN.{length, getD, take, drop, length-append}
+use lib.ListN.{length, getD, take, drop}
 use lib.Seq.{length-take-le}
 use borrow.Author.Needs.{needs}
 use Rattle.basis.specs.Bytes.{Bytes}
 use Rattle.basis.proofs.Bits.{one-le}
-use Rattle.run.specs.Settling.{wordAt}
 use Rattle.run.proofs.Stretched.{long, brief, long-kept, wentIn, sp-kept, front-bytes, stretched}
 use Rattle.run.proofs.over.stretch.Statement.{statement}
 use Rattle.run.proofs.over.stretch.Tie as tie

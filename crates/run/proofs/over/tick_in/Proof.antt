@@ -1,13 +1,12 @@
--- `tick_in`: the checks, a wait in the last byte alone, or a whole tick.
+-- `tick_in`: the checks, a wait in the last byte alone, or a run of one tick.
 -- Assumes nothing.
-use mathlib.Core.Path.{_≡_, sym, ap, _∙_}
+use mathlib.Core.Path.{_≡_, sym, _∙_}
 use native.Mathlib.Omega.{arith}
 use borrow.Author.Needs.{needs}
 use Rattle.basis.specs.Bytes.{Bytes}
-use Rattle.tick.specs.Tick.{numberOf}
 use Rattle.snapshot.specs.Snapshot.{readOf}
-use Rattle.run.proofs.Stretched.{long}
-use Rattle.run.proofs.Calls.{tick-refused, tick-passed, tick-waits}
+use Rattle.run.proofs.Stretched.{long, said-busy}
+use Rattle.run.proofs.Calls.{tick-refused, tick-advanced, tick-waits}
 use Rattle.run.proofs.over.tick_in.Statement.{statement}
 use Rattle.run.proofs.over.tick_in.Tie as tie
 
@@ -26,13 +25,15 @@ returns-2 c =
     let a = c .before .before .before .before .before .before .before .before .args in
     let s = a .snapshot .now in
     let bytes : Bytes s = record { byte-lt = λ i. omega (arith, c .before .slice-known3 .given i) } in
-    tick-waits s (a .program .now) (a .«data» .now) (a .offer) (passed (c .before .before)) bytes (c .if2 .taken)
+    tick-waits s (a .program .now) (a .«data» .now) (a .offer) (passed (c .before .before)) bytes (omega (arith, c .if2 .taken))
 
 returns-3 : tie.Need-returns-3
 returns-3 c =
-    let a = c .before .before .before .before .before .before .before .before .before .before .before .before .before .before .before .before .args in
-    let t = c .before .before .before .before .before .whole .ensures in
-    tick-passed (a .snapshot .now) (a .program .now) (a .«data» .now) (a .offer) (passed (c .before .before .before .before .before .before .before .before .before .before)) (c .number .ensures ∙ ap numberOf (t .answer)) (t .snapshot) (t .bytes)
+    let a = c .before .before .before .before .before .before .before .before .before .before .before .before .before .before .before .args in
+    let s = a .snapshot .now in
+    let h = passed (c .before .before .before .before .before .before .before .before .before) in
+    let ran = c .before .before .before .before .advance in
+    tick-advanced s (a .program .now) (a .«data» .now) (a .offer) h (ran .result) (ran .ensures) (said-busy s h ∙ omega (arith, c .before .before .before .before .before .before .before .if2 .left))
 
 pub tick-in-spec : {M : Type 1} → statement M
 tick-in-spec =
@@ -45,8 +46,7 @@ tick-in-spec =
     (λ c. omega (arith, long (c .before .before .before .before .before .before .before .before .args .snapshot .now) (passed (c .before .before))))
     (λ c. search needs)
     returns-2
-    (λ c κs. search needs)
-    (λ c κs. search needs)
+    (λ c κs. (passed (c .before .before .before .before), omega arith))
     (λ c. search needs)
     (λ c. search needs)
     returns-3)

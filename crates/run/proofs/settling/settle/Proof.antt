@@ -1,7 +1,7 @@
 -- `settle`: PC, SP where it changed, SREG and the last byte.
 -- Assumes nothing.
-use mathlib.Core.Path.{_≡_, refl, sym, _∙_}
-use Prim.Native.Nat.{ℕ, _+_, _*_, _/_, _%_, _<_}
+use mathlib.Core.Path.{_≡_, sym, _∙_}
+use Prim.Native.Nat.{_<_}
 use native.Mathlib.Omega.{arith}
 use lib.ListN.{length, length-set, set, getD}
 use borrow.Author.Needs.{needs}
