@@ -2,6 +2,9 @@
 -- Assumes nothing.
 use Rattle.instruction.proofs.Laws.{fields-in-range, second-word-alone}
 use Rattle.tick.proofs.Foretold.{foretold}
+use Rattle.run.proofs.Told.{told-runs}
+use Rattle.run.proofs.Waits.{waits-out}
+use Rattle.run.proofs.Onward.{ran-goes-on}
 use Rattle.invariants.proofs.Ranges.{instructions-stay-in-range}
 use Rattle.invariants.proofs.Waits.{instructions-wait-at-most-3}
 use Rattle.invariants.proofs.Registers.{other-registers-kept, register-only-keeps-the-rest}
@@ -32,6 +35,9 @@ claims =
       fields = fields-in-range;
       second-word = second-word-alone;
       foretold = foretold;
+      carried-out = told-runs;
+      waits-at-once = waits-out;
+      ran-goes-on = ran-goes-on;
       instructions-in-range = instructions-stay-in-range;
       instructions-wait = instructions-wait-at-most-3;
       other-registers = other-registers-kept;

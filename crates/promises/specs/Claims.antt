@@ -2,6 +2,8 @@
 -- where that stands.
 use Rattle.instruction.specs.Fields.{FieldsInRange, SecondWordAlone}
 use Rattle.tick.specs.Plan.{TickIsTheTwoInTurn}
+use Rattle.run.specs.Ready.{CarriedOutIsTheTick}
+use Rattle.run.specs.Lent.{WaitsAtOnce, RanGoesOn}
 use Rattle.invariants.specs.Instructions.{InstructionsStayInRange, InstructionsWaitAtMost3, OtherRegistersKept, RegisterOnlyKeepsTheRest, OnlyRetiAndSeiTouchTheFlags}
 use Rattle.invariants.specs.Ticks.{TicksAnswerTickNumbers}
 use Rattle.invariants.specs.Rule.{InstructionsKeepTheRule, TicksKeepTheRule, RulesDifferWhereAsked, PointersWaitByTheRule}
@@ -22,6 +24,10 @@ pub record Claims : Type 0 where
   pub second-word : SecondWordAlone
   -- crates/tick/specs/Plan.antt: what is foretold is what the tick then gives, and carrying it out leaves the tick's core and data
   pub foretold : TickIsTheTwoInTurn
+  -- crates/run/specs/Ready.antt, Lent.antt: over lent registers what is carried out is the tick's step, waits at once are that many ticks, and what remains is the rest of the same run
+  pub carried-out : CarriedOutIsTheTick
+  pub waits-at-once : WaitsAtOnce
+  pub ran-goes-on : RanGoesOn
   -- crates/invariants/specs/Instructions.antt: what every instruction keeps
   pub instructions-in-range : InstructionsStayInRange
   pub instructions-wait : InstructionsWaitAtMost3

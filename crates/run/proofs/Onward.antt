@@ -19,18 +19,16 @@ use Rattle.invariants.proofs.Waits.{instructions-wait-at-most-3}
 use Rattle.effects.specs.Parts.{stood, cored}
 use Rattle.effects.specs.declared.Step.{Step}
 use Rattle.run.specs.Run.{runOf}
-use Rattle.run.specs.Lent.{restOf}
+use Rattle.run.specs.Lent.{restOf, RanGoesOn}
 use Rattle.run.proofs.Unroll.{unroll-on}
 use Rattle.run.proofs.Waits.{waits-out}
 
--- a tick that ran from k to t
-steps-on : (b at : ℕ) (k t : Core) (p m m' : List ℕ) (o : Offer) → at < b → tickOf k p m o ≡ gives Ran t m' → t .busy ≤ 4
-    → restOf b at k p m o ≡ restOf b (at + t .busy + 1) (withBusy t 0) p m' o
-steps-on b at k t p m m' o h e low =
-    let count : at + 1 + t .busy ≡ at + t .busy + 1 = omega arith in
+pub ran-goes-on : RanGoesOn
+ran-goes-on b at k k' p m m' o h e low =
+    let count : at + 1 + k' .busy ≡ at + k' .busy + 1 = omega arith in
     rw (lt-ltb at b h)
     (unroll-on b at k p m o h (ap (λ (x : Tick). refuses (x .answer)) e) (ap (λ (x : Tick). stops (x .answer)) e)
-    ∙ rw e (waits-out (t .busy) b (at + 1) t p m' o refl low (omega (arith, h)) ∙ ap (λ n. restOf b n (withBusy t 0) p m' o) count))
+    ∙ rw e (waits-out (k' .busy) b (at + 1) k' p m' o refl low (omega (arith, h)) ∙ ap (λ n. restOf b n (withBusy k' 0) p m' o) count))
 
 -- what `effect` left, in parts: rs' and z, of an instruction on a core that does not wait
 module _ (rs rs' : List ℕ) (pc sp s : ℕ) (service chip : Bool) (z : Step) (i : Instruction) (p m m' : List ℕ) where
@@ -51,4 +49,4 @@ module _ (rs rs' : List ℕ) (pc sp s : ℕ) (service chip : Bool) (z : Step) (i
     unfolding withPc withSp withBusy withInhibit withService withChip
     carried-on b at k o h e =
         let ran : tickOf k p m o ≡ gives Ran (cored rs' z chip) m' = rw (left .core, left .bytes) e in
-        steps-on b at k (cored rs' z chip) p m m' o h ran (omega (arith, few-waits))
+        ran-goes-on b at k (cored rs' z chip) p m m' o h ran (omega (arith, few-waits))

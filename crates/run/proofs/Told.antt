@@ -24,7 +24,7 @@ use Rattle.tick.proofs.Decided.{both-words}
 use Rattle.tick.proofs.Steps.{free-tick}
 use Rattle.effects.specs.Parts.{stood, cored}
 use Rattle.run.specs.Lent.{offers}
-use Rattle.run.specs.Ready.{Unrefused}
+use Rattle.run.specs.Ready.{Unrefused, CarriedOutIsTheTick}
 
 -- inhibit, I and in-service, in the order of the code's test
 none-due : (inhibit flag service : Bool) (o : Offer) → pick (offers o) (flag && not service && not inhibit) false ≡ false
@@ -50,8 +50,11 @@ module _ (rs : List ℕ) (pc sp s : ℕ) (inhibit service chip : Bool) (p m : Li
   unfolding withPc withSp withBusy withInhibit withService withChip
   undue h = none-due inhibit (bit s 7) service o h
 
-  pub told-runs : pick (offers o) (bit s 7 && not service && not inhibit) false ≡ false → pc < 65535 → hasWordOf p (pc + 1) ≡ true → Unrefused rs (pc + 1) sp p m op
+  runs : pick (offers o) (bit s 7 && not service && not inhibit) false ≡ false → pc < 65535 → hasWordOf p (pc + 1) ≡ true → Unrefused rs (pc + 1) sp p m op
       → tickOf k p m o ≡ gives Ran (executed decodeOf next op p m .core) (executed decodeOf next op p m .bytes)
   unfolding entersOrSteps stepped withPc withSp withBusy withInhibit withService withChip
-  told-runs h low words (runs, fine) =
-      rw (free-tick k p m o refl, undue h, ne-eqb pc 65535 (λ z. omega (arith, low, z)), ← both-words p pc op words, fine s false service chip, executed-done decodeOf next op p m, runs)
+  runs h low words (ran, fine) =
+      rw (free-tick k p m o refl, undue h, ne-eqb pc 65535 (λ z. omega (arith, low, z)), ← both-words p pc op words, fine s false service chip, executed-done decodeOf next op p m, ran)
+
+pub told-runs : CarriedOutIsTheTick
+told-runs rs pc sp s inhibit service chip p m o = runs rs pc sp s inhibit service chip p m o

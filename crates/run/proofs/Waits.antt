@@ -14,7 +14,7 @@ use Rattle.tick.specs.Tick.{refuses, stops}
 use Rattle.tick.specs.declared.Offer.{Offer}
 use Rattle.tick.proofs.Steps.{busy-tick}
 use Rattle.run.specs.Run.{after, runOf}
-use Rattle.run.specs.Lent.{restOf}
+use Rattle.run.specs.Lent.{restOf, WaitsAtOnce}
 use Rattle.run.proofs.Unroll.{unroll-spent, unroll-on}
 
 -- busy made so twice is busy made so once, and busy made what it was is the core
@@ -60,6 +60,5 @@ module _ (p m : List ℕ) (o : Offer) where
       ∙ rw (more, busy-again k n 0))
       (λ h. waits-on (suc n) b done k e (ltb-false done b h) d)
 
-pub waits-out : (n b done : ℕ) (k : Core) (p m : List ℕ) (o : Offer) → k .busy ≡ n → n ≤ 4 → done ≤ b
-    → after done (runOf (b - done) k p m o) ≡ restOf b (done + n) (withBusy k 0) p m o
+pub waits-out : WaitsAtOnce
 waits-out n b done k p m o e l d = waits p m o n b done k e l d

@@ -1,10 +1,12 @@
 -- The short form of `decide`, over lent registers: what it says where it lets an instruction be carried out. rs are the bytes of lent registers, w is the instruction's word,
 -- f its form, i an instruction, p a program, m the bytes of data, s an SREG, o an offer, b an answer of `ready`.
 use mathlib.Core.Path.{_≡_}
-use mathlib.Core.Bool.{Bool, true, false, _&&_}
+use mathlib.Core.Bool.{Bool, true, false, not, _&&_}
 use mathlib.Core.List.{List}
 use Prim.Native.Nat.{ℕ, _+_, _<_}
 use lib.Dec.{leb, ltb}
+use Rattle.basis.specs.Pick.{pick}
+use Rattle.basis.specs.Bit.{bit}
 use Rattle.instruction.specs.Decode.{decodeOf}
 use Rattle.instruction.specs.declared.Instruction.{Instruction}
 use Rattle.forms.specs.Forms.{formOf}
@@ -31,6 +33,17 @@ Unrefused rs pc sp p m i =
 abbrev pub Readies : ℕ → ℕ → List ℕ → ℕ → ℕ → List ℕ → List ℕ → Bool → Type 0
 Readies f w rs pc sp p m b = f ≡ formOf w → pc < 65534 → hasWordOf p pc ≡ true → b ≡ true → Unrefused rs pc sp p m (instructionOf f w (programWordOf p pc))
 
+-- ---- the theorem, proved in proofs/Told.antt: what is carried out is the tick's step
+-- of a core that does not wait, where no entry is due and the words at PC and behind it are there: the tick executes the instruction at PC, with inhibit clear, and answers `ran`
+abbrev pub CarriedOutIsTheTick : Type 0
+CarriedOutIsTheTick =
+    (rs : List ℕ) (pc sp s : ℕ) (inhibit service chip : Bool) (p m : List ℕ) (o : Offer)
+    → let i = decodeOf (programWordOf p pc) (programWordOf p (pc + 1)) in
+    let e = executed decodeOf (cored rs (stood (pc + 1) sp s 0 false service) chip) i p m in
+    pick (offers o) (bit s 7 && not service && not inhibit) false ≡ false → pc < 65535 → hasWordOf p (pc + 1) ≡ true → Unrefused rs (pc + 1) sp p m i
+    → tickOf (cored rs (stood pc sp s 0 inhibit service) chip) p m o ≡ gives Ran (e .core) (e .bytes)
+
+-- ---- the code
 -- a form that is told, and is not UNDEF's 86: the next tick carries its instruction out, with inhibit clear
 abbrev pub TellsForm : List ℕ → ℕ → ℕ → ℕ → Bool → Bool → List ℕ → List ℕ → Bool → ℕ → Type 0
 TellsForm rs pc sp s inhibit service p m offered f =
