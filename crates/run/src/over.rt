@@ -32,7 +32,7 @@ fn offered(offer: Offer) -> bool
     }
 }
 
-// A whole tick.
+// A whole tick, by the two operations, of which `ready` and `effect` are the short form.
 fn whole(snapshot: &mut [u8], program: &[u8], data: &mut [u8], offer: Offer) -> Answer
     ensures { λ a. ⌜ TickedOver (now (snapshot .entry)) (now (program .entry)) (now («data» .entry)) offer a (now (snapshot .exit)) (now («data» .exit)) ⌝ }
 {
