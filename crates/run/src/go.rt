@@ -15,6 +15,19 @@ pub(crate) struct Gone {
     pub in_service: bool,
 }
 
+fn went(at: u64, pc: u16, sp: u16, sreg: u8, inhibit: bool, in_service: bool) -> Gone
+    ensures { λ g. ⌜ g ≡ record { at = at; pc = pc; sp = sp; sreg = sreg; inhibit = inhibit; «in_service» = «in_service» } ⌝ }
+{
+    Gone {
+        at,
+        pc,
+        sp,
+        sreg,
+        inhibit,
+        in_service,
+    }
+}
+
 // From the tick `at0`, when the core no longer waits: until an instruction would begin at the budget or behind it, or a tick is to be made whole.
 pub(crate) fn go(
     regs: &mut [u8],
@@ -36,29 +49,12 @@ pub(crate) fn go(
     let mut sp = sp0;
     let mut sreg = sreg0;
     let mut inhibit = inhibit0;
-    let mut in_service = in_service0;
+    let mut service = in_service0;
     let mut at = at0;
     while at < budget as u64 {
-        let form = tells(
-            regs,
-            pc,
-            sp,
-            sreg,
-            inhibit,
-            in_service,
-            program,
-            data,
-            offered,
-        );
+        let form = tells(regs, pc, sp, sreg, inhibit, service, program, data, offered);
         if form == UNDEF {
-            return Gone {
-                at,
-                pc,
-                sp,
-                sreg,
-                inhibit,
-                in_service,
-            };
+            return went(at, pc, sp, sreg, inhibit, service);
         }
         let opcode = memory::get_progmem(program, pc as u32);
         let behind = std::num::wrapping_add_u16(pc, 1);
@@ -70,7 +66,7 @@ pub(crate) fn go(
             sp,
             sreg,
             false,
-            in_service,
+            service,
             chip,
             program,
             data,
@@ -79,15 +75,8 @@ pub(crate) fn go(
         sp = made.sp;
         sreg = made.sreg;
         inhibit = made.inhibit;
-        in_service = made.in_service;
+        service = made.in_service;
         at = at + made.busy as u64 + 1;
     }
-    Gone {
-        at,
-        pc,
-        sp,
-        sreg,
-        inhibit,
-        in_service,
-    }
+    went(at, pc, sp, sreg, inhibit, service)
 }

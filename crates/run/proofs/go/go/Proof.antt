@@ -56,7 +56,7 @@ on-again c =
     let (low, runs) = asked .tells .ensures (behind .before .before .if1 .left) in
     let up-one : behind .wrapping-add-u16 .result ≡ l .pc + 1 = omega (arith, low) in
     let left = rw (up-one, behind .before .get-progmem .ensures) at (made .ensures) in
-    let few = few-waits (l .regs) _ (l .pc + 1) (l .sp) (l .sreg) (l .in-service) (a .chip) z (instructionOf f w x) p (l .«data») _ left in (
+    let few = few-waits (l .regs) _ (l .pc + 1) (l .sp) (l .sreg) (l .service) (a .chip) z (instructionOf f w x) p (l .«data») _ left in (
       omega arith,
       (
         λ h. omega (arith, few, l .inv .1 .0 h),
@@ -65,7 +65,7 @@ on-again c =
           (
             c .before .before .«data» .given ∙ l .inv .1 .1 .1 .0,
             (
-              λ o e. l .inv .1 .1 .1 .1 .0 o e ∙ carried-on (l .regs) _ (l .pc + 1) (l .sp) (l .sreg) (l .in-service) (a .chip) z (instructionOf f w x) p (l .«data») _ left (a .budget) (l .at) _ o (asked .before .before .before .loop-test .taken) (runs (a .chip) o e),
+              λ o e. l .inv .1 .1 .1 .1 .0 o e ∙ carried-on (l .regs) _ (l .pc + 1) (l .sp) (l .sreg) (l .service) (a .chip) z (instructionOf f w x) p (l .«data») _ left (a .budget) (l .at) _ o (asked .before .before .before .loop-test .taken) (runs (a .chip) o e),
               λ o e. ran-first (l .at) _ (a .at0) _ _ _ p (l .«data») _ (a .«data» .now) o (omega (arith, l .inv .0)) (ap (λ (t : Tick). t .answer) (runs (a .chip) o e)) (l .inv .1 .1 .1 .1 .1 o e),
             ),
           ),
@@ -81,18 +81,20 @@ go-spec =
     μ-loop
     (λ c. (omega arith, (λ h. h, (refl, (refl, (λ o e. refl, λ o e. inl (refl, (refl, refl))))))))
     (λ c κs. search needs)
+    (λ c κs. search needs)
     (λ c. search needs)
     (λ c. search needs)
-    (λ c. let l = c .before .before .before .before .before .loop in record { onward = l .inv .0; bounded = l .inv .1 .0; rest = l .inv .1 .1 .1 .1 .0; first = l .inv .1 .1 .1 .1 .1 })
+    (λ c. let l = c .before .before .before .before .before .before .loop in rw (c .went .ensures) (record { onward = l .inv .0; bounded = l .inv .1 .0; rest = l .inv .1 .1 .1 .1 .0; first = l .inv .1 .1 .1 .1 .1 }))
     (λ c. let (low, _) = c .before .tells .ensures (c .if1 .left) in omega (arith, low))
     (λ c κs. search needs)
     (λ c κs. search needs)
     (λ c κs. search needs)
     (λ c. search needs)
-    (λ c. let begun = c .before .before .before .before .before .before .before .before .before .before .before .before .before .before .loop-test .taken in let small = c .before .before .before .before .before .before .before .before .before .before .before .before .before .before .before .before .before .before .before .fits .budget .fits in omega (arith, begun, small))
-    (λ c. let begun = c .before .before .before .before .before .before .before .before .before .before .before .before .before .before .loop-test .taken in let small = c .before .before .before .before .before .before .before .before .before .before .before .before .before .before .before .before .before .before .before .fits .budget .fits in omega (arith, begun, small))
+    (λ c. let turn = c .before .before .before .before .before .before .before .before .before .before .before .before .before .before in omega (arith, turn .loop-test .taken, turn .before .before .before .before .before .fits .budget .fits))
+    (λ c. let turn = c .before .before .before .before .before .before .before .before .before .before .before .before .before .before in omega (arith, turn .loop-test .taken, turn .before .before .before .before .before .fits .budget .fits))
     (λ c. omega arith)
     on-again
+    (λ c κs. search needs)
     (λ c. search needs)
     (λ c. search needs)
-    (λ c. let l = c .before .loop in record { onward = l .inv .0; bounded = l .inv .1 .0; rest = l .inv .1 .1 .1 .1 .0; first = l .inv .1 .1 .1 .1 .1 }))
+    (λ c. let l = c .before .before .loop in rw (c .went2 .ensures) (record { onward = l .inv .0; bounded = l .inv .1 .0; rest = l .inv .1 .1 .1 .1 .0; first = l .inv .1 .1 .1 .1 .1 })))
