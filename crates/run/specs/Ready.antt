@@ -21,17 +21,10 @@ use Rattle.tick.specs.declared.Answer.the-variants.{Ran}
 use Rattle.effects.specs.Parts.{stood, cored}
 use Rattle.run.specs.Lent.{offers}
 
--- an address from 64 on that is in data of so many bytes
-abbrev pub plainOf : ℕ → ℕ → Bool
-plainOf at bytes = leb 0x40 at && ltb at bytes
-
 -- the instruction runs, and no rule refuses it, whatever SREG, the two flags and the rule are; PC is behind its first word
 abbrev pub Unrefused : List ℕ → ℕ → ℕ → List ℕ → List ℕ → Instruction → Type 0
 Unrefused rs pc sp p m i =
     (doneOf i ≡ done.Ran) × ((s : ℕ) (inhibit service chip : Bool) → refusal (needs decodeOf (cored rs (stood pc sp s 0 inhibit service) chip) i p m) ≡ 0)
-
-abbrev pub Readies : ℕ → ℕ → List ℕ → ℕ → ℕ → List ℕ → List ℕ → Bool → Type 0
-Readies f w rs pc sp p m b = f ≡ formOf w → pc < 65534 → hasWordOf p pc ≡ true → b ≡ true → Unrefused rs pc sp p m (instructionOf f w (programWordOf p pc))
 
 -- ---- the theorem, proved in proofs/Told.antt: what is carried out is the tick's step
 -- of a core that does not wait, where no entry is due and the words at PC and behind it are there: the tick executes the instruction at PC, with inhibit clear, and answers `ran`
@@ -44,6 +37,14 @@ CarriedOutIsTheTick =
     → tickOf (cored rs (stood pc sp s 0 inhibit service) chip) p m o ≡ gives Ran (e .core) (e .bytes)
 
 -- ---- the code
+-- an address from 64 on that is in data of so many bytes
+abbrev pub plainOf : ℕ → ℕ → Bool
+plainOf at bytes = leb 0x40 at && ltb at bytes
+
+-- of a word's form, with PC behind the word, low enough for any skip, and the word there in the program: where `ready` says yes
+abbrev pub Readies : ℕ → ℕ → List ℕ → ℕ → ℕ → List ℕ → List ℕ → Bool → Type 0
+Readies f w rs pc sp p m b = f ≡ formOf w → pc < 65534 → hasWordOf p pc ≡ true → b ≡ true → Unrefused rs pc sp p m (instructionOf f w (programWordOf p pc))
+
 -- a form that is told, and is not UNDEF's 86: the next tick carries its instruction out, with inhibit clear
 abbrev pub TellsForm : List ℕ → ℕ → ℕ → ℕ → Bool → Bool → List ℕ → List ℕ → Bool → ℕ → Type 0
 TellsForm rs pc sp s inhibit service p m offered f =
