@@ -17,19 +17,22 @@ mod stack;
 mod transfer;
 
 use hops::data_bit_is;
+use hops::equal;
 use hops::flag_is;
 use hops::hop;
 use hops::register_bit_is;
+use hops::target;
 use hops::words_over;
 use stack::pop_word;
 use stack::push_word;
-use transfer::get_data_space;
 use transfer::ld;
 use transfer::leaves;
+use transfer::load_to;
 use transfer::lpm;
 pub use transfer::pointed;
-use transfer::set_data_space;
+use transfer::set_io_bit;
 use transfer::st;
+use transfer::store_from;
 
 // A core but for its registers and its rule.
 pub struct Step {
@@ -64,24 +67,22 @@ pub fn effect(
     match form {
         // Change of Flow Instructions
         BRBC => {
-            let taken = flag_is(sreg0, b3(opcode), false);
-            pc = hop(taken, pc, alu::signed(k7(opcode)));
+            let taken = flag_is(sreg0, opcode, false);
+            pc = hop(taken, pc, opcode);
             left.busy = taken as u8;
         }
         BRBS => {
-            let taken = flag_is(sreg0, b3(opcode), true);
-            pc = hop(taken, pc, alu::signed(k7(opcode)));
+            let taken = flag_is(sreg0, opcode, true);
+            pc = hop(taken, pc, opcode);
             left.busy = taken as u8;
         }
         CALL => {
             left.sp = push_word(sp0, std::num::wrapping_add_u16(pc, 1), data);
-            pc = (k22(opcode, memory::get_progmem(program, pc as u32)) % 65536) as u16;
+            pc = target(opcode, program, pc);
             left.busy = 2;
         }
         CPSE => {
-            let equal = memory::read(regs, d5(opcode) as usize)
-                == memory::read(regs, r5(opcode) as usize);
-            left.busy = words_over(equal, memory::get_progmem(program, pc as u32));
+            left.busy = words_over(equal(regs, opcode), program, pc);
             pc = std::num::wrapping_add_u16(pc, left.busy as u16);
         }
         ICALL => {
@@ -94,7 +95,7 @@ pub fn effect(
             left.busy = 1;
         }
         JMP => {
-            pc = (k22(opcode, memory::get_progmem(program, pc as u32)) % 65536) as u16;
+            pc = target(opcode, program, pc);
             left.busy = 2;
         }
         RCALL => {
@@ -119,95 +120,81 @@ pub fn effect(
             left.busy = 1;
         }
         SBIC => {
-            let taken = data_bit_is(data, A5(opcode), b3(opcode), false);
-            left.busy = words_over(taken, memory::get_progmem(program, pc as u32));
+            left.busy = words_over(data_bit_is(data, opcode, false), program, pc);
             pc = std::num::wrapping_add_u16(pc, left.busy as u16);
         }
         SBIS => {
-            let taken = data_bit_is(data, A5(opcode), b3(opcode), true);
-            left.busy = words_over(taken, memory::get_progmem(program, pc as u32));
+            left.busy = words_over(data_bit_is(data, opcode, true), program, pc);
             pc = std::num::wrapping_add_u16(pc, left.busy as u16);
         }
         SBRC => {
-            let taken = register_bit_is(regs, d5(opcode), b3(opcode), false);
-            left.busy = words_over(taken, memory::get_progmem(program, pc as u32));
+            left.busy = words_over(register_bit_is(regs, opcode, false), program, pc);
             pc = std::num::wrapping_add_u16(pc, left.busy as u16);
         }
         SBRS => {
-            let taken = register_bit_is(regs, d5(opcode), b3(opcode), true);
-            left.busy = words_over(taken, memory::get_progmem(program, pc as u32));
+            left.busy = words_over(register_bit_is(regs, opcode, true), program, pc);
             pc = std::num::wrapping_add_u16(pc, left.busy as u16);
         }
         // Data Transfer Instructions
-        IN => {
-            let value = get_data_space(A6(opcode) as usize, sreg0, sp0, data);
-            memory::write(regs, d5(opcode) as usize, value);
-        }
-        LDX => left.busy = ld(regs, d5(opcode), X, 0, false, false, sreg0, sp0, chip, data),
-        LDXinc => left.busy = ld(regs, d5(opcode), X, 0, false, true, sreg0, sp0, chip, data),
-        LDXdec => left.busy = ld(regs, d5(opcode), X, 0, true, false, sreg0, sp0, chip, data),
-        LDYinc => left.busy = ld(regs, d5(opcode), Y, 0, false, true, sreg0, sp0, chip, data),
-        LDYdec => left.busy = ld(regs, d5(opcode), Y, 0, true, false, sreg0, sp0, chip, data),
-        LDZinc => left.busy = ld(regs, d5(opcode), Z, 0, false, true, sreg0, sp0, chip, data),
-        LDZdec => left.busy = ld(regs, d5(opcode), Z, 0, true, false, sreg0, sp0, chip, data),
+        IN => load_to(regs, opcode, A6(opcode) as usize, sreg0, sp0, data),
+        LDX => left.busy = ld(regs, opcode, X, 0, false, false, sreg0, sp0, chip, data),
+        LDXinc => left.busy = ld(regs, opcode, X, 0, false, true, sreg0, sp0, chip, data),
+        LDXdec => left.busy = ld(regs, opcode, X, 0, true, false, sreg0, sp0, chip, data),
+        LDYinc => left.busy = ld(regs, opcode, Y, 0, false, true, sreg0, sp0, chip, data),
+        LDYdec => left.busy = ld(regs, opcode, Y, 0, true, false, sreg0, sp0, chip, data),
+        LDZinc => left.busy = ld(regs, opcode, Z, 0, false, true, sreg0, sp0, chip, data),
+        LDZdec => left.busy = ld(regs, opcode, Z, 0, true, false, sreg0, sp0, chip, data),
         LDDY => {
             let q = q6(opcode);
-            left.busy = ld(regs, d5(opcode), Y, q, false, false, sreg0, sp0, chip, data);
+            left.busy = ld(regs, opcode, Y, q, false, false, sreg0, sp0, chip, data);
         }
         LDDZ => {
             let q = q6(opcode);
-            left.busy = ld(regs, d5(opcode), Z, q, false, false, sreg0, sp0, chip, data);
+            left.busy = ld(regs, opcode, Z, q, false, false, sreg0, sp0, chip, data);
         }
         LDS => {
             let at = memory::get_progmem(program, pc as u32);
-            let value = get_data_space(at as usize, sreg0, sp0, data);
-            memory::write(regs, d5(opcode) as usize, value);
+            load_to(regs, opcode, at as usize, sreg0, sp0, data);
             left.busy = 2;
             pc = std::num::wrapping_add_u16(pc, 1);
         }
         LPM => left.busy = lpm(regs, 0, false, program),
         LPMZ => left.busy = lpm(regs, d5(opcode), false, program),
         LPMZinc => left.busy = lpm(regs, d5(opcode), true, program),
-        OUT => {
-            let value = memory::read(regs, d5(opcode) as usize);
-            left = set_data_space(A6(opcode) as usize, value, sreg0, sp0, data);
-        }
+        OUT => left = store_from(regs, opcode, A6(opcode) as usize, sreg0, sp0, data),
         POP => {
             left.sp = std::num::wrapping_add_u16(sp0, 1);
             left.busy = 1;
-            let value = get_data_space(left.sp as usize, sreg0, left.sp, data);
-            memory::write(regs, d5(opcode) as usize, value);
+            load_to(regs, opcode, left.sp as usize, sreg0, left.sp, data);
         }
         PUSH => {
-            let value = memory::read(regs, d5(opcode) as usize);
-            left = set_data_space(sp0 as usize, value, sreg0, sp0, data);
+            left = store_from(regs, opcode, sp0 as usize, sreg0, sp0, data);
             left.sp = std::num::wrapping_sub_u16(left.sp, 1);
         }
-        STX => left = st(regs, d5(opcode), X, 0, false, false, sreg0, sp0, chip, data),
-        STXdec => left = st(regs, d5(opcode), X, 0, true, false, sreg0, sp0, chip, data),
-        STXinc => left = st(regs, d5(opcode), X, 0, false, true, sreg0, sp0, chip, data),
-        STYdec => left = st(regs, d5(opcode), Y, 0, true, false, sreg0, sp0, chip, data),
-        STYinc => left = st(regs, d5(opcode), Y, 0, false, true, sreg0, sp0, chip, data),
-        STZdec => left = st(regs, d5(opcode), Z, 0, true, false, sreg0, sp0, chip, data),
-        STZinc => left = st(regs, d5(opcode), Z, 0, false, true, sreg0, sp0, chip, data),
+        STX => left = st(regs, opcode, X, 0, false, false, sreg0, sp0, chip, data),
+        STXdec => left = st(regs, opcode, X, 0, true, false, sreg0, sp0, chip, data),
+        STXinc => left = st(regs, opcode, X, 0, false, true, sreg0, sp0, chip, data),
+        STYdec => left = st(regs, opcode, Y, 0, true, false, sreg0, sp0, chip, data),
+        STYinc => left = st(regs, opcode, Y, 0, false, true, sreg0, sp0, chip, data),
+        STZdec => left = st(regs, opcode, Z, 0, true, false, sreg0, sp0, chip, data),
+        STZinc => left = st(regs, opcode, Z, 0, false, true, sreg0, sp0, chip, data),
         STDY => {
             let q = q6(opcode);
-            left = st(regs, d5(opcode), Y, q, false, false, sreg0, sp0, chip, data);
+            left = st(regs, opcode, Y, q, false, false, sreg0, sp0, chip, data);
         }
         STDZ => {
             let q = q6(opcode);
-            left = st(regs, d5(opcode), Z, q, false, false, sreg0, sp0, chip, data);
+            left = st(regs, opcode, Z, q, false, false, sreg0, sp0, chip, data);
         }
         STS => {
             let at = memory::get_progmem(program, pc as u32);
-            let value = memory::read(regs, d5(opcode) as usize);
-            left = set_data_space(at as usize, value, sreg0, sp0, data);
+            left = store_from(regs, opcode, at as usize, sreg0, sp0, data);
             left.busy = 1;
             pc = std::num::wrapping_add_u16(pc, 1);
         }
         // Bit and Bit-Test Instructions
-        CBI => memory::set_bit(data, A5(opcode) as usize, b3(opcode), false),
-        SBI => memory::set_bit(data, A5(opcode) as usize, b3(opcode), true),
+        CBI => set_io_bit(data, opcode, false),
+        SBI => set_io_bit(data, opcode, true),
         // The register-only list; MCU control instructions and undefined words change nothing.
         _ => {
             let made = registers::change(form, opcode, regs, sreg0, inhibit0, chip);

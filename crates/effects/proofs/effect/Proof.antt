@@ -23,29 +23,29 @@ use Rattle.effects.proofs.effect.Tie as tie
 on-BRBC : tie.Need-returns
 unfolding withRegs withReg withPc withSp withBusy withInhibit withService withChip
 on-BRBC c =
-    let a = c .before .before .before .before .before .before .before .before .before .before .args in
-    rw (c .before .before .before .before .before .match .keys1, found 8, c .hop .ensures, c .before .signed .ensures, c .before .before .k7 .ensures, c .before .before .before .flag-is .ensures, c .before .before .before .before .b3 .ensures, c .before .before .before .before .before .before .leaves .ensures)
+    let a = c .before .before .before .before .before .before .before .args in
+    rw (c .before .before .match .keys1, found 8, c .hop .ensures, c .before .flag-is .ensures, c .before .before .before .leaves .ensures)
     (record { core = branches (a .regs .now) (a .pc0) (a .sp0) (a .sreg0) (a .inhibit0) (a .in-service0) (a .chip) (b3 (a .opcode)) (k7 (a .opcode)) false; bytes = refl })
 
 on-BRBS : tie.Need-returns-2
 unfolding withRegs withReg withPc withSp withBusy withInhibit withService withChip
 on-BRBS c =
-    let a = c .before .before .before .before .before .before .before .before .before .before .args in
-    rw (c .before .before .before .before .before .match .keys2, found 9, c .hop2 .ensures, c .before .signed2 .ensures, c .before .before .k72 .ensures, c .before .before .before .flag-is2 .ensures, c .before .before .before .before .b32 .ensures, c .before .before .before .before .before .before .leaves .ensures)
+    let a = c .before .before .before .before .before .before .before .args in
+    rw (c .before .before .match .keys2, found 9, c .hop2 .ensures, c .before .flag-is2 .ensures, c .before .before .before .leaves .ensures)
     (record { core = branches (a .regs .now) (a .pc0) (a .sp0) (a .sreg0) (a .inhibit0) (a .in-service0) (a .chip) (b3 (a .opcode)) (k7 (a .opcode)) true; bytes = refl })
 
 on-CALL : tie.Need-returns-3
 unfolding withRegs withReg withPc withSp withBusy withInhibit withService withChip
 on-CALL c =
-    rw (c .before .before .before .before .before .before .before .match .keys3, found 13, c .k22 .ensures, c .before .get-progmem .ensures, c .before .before .before .before .push-word .ensures .0, c .before .before .before .before .push-word .ensures .1, c .before .before .before .before .before .before .wrapping-add-u16 .ensures, c .before .before .before .before .before .before .before .before .leaves .ensures)
+    rw (c .before .before .before .before .before .before .match .keys3, found 13, c .target .ensures, c .before .before .before .push-word .ensures .0, c .before .before .before .push-word .ensures .1, c .before .before .before .before .before .wrapping-add-u16 .ensures, c .before .before .before .before .before .before .before .leaves .ensures)
     (record { core = refl; bytes = refl })
 
 on-CPSE : tie.Need-returns-4
 unfolding withRegs withReg withPc withSp withBusy withInhibit withService withChip
 on-CPSE c =
-    let a = c .before .before .before .before .before .before .before .before .before .before .before .before .before .before .before .args in
-    rw (c .before .before .before .before .before .before .before .before .before .before .match .keys4, found 19, c .wrapping-add-u162 .ensures, c .before .before .words-over .ensures, c .before .before .before .get-progmem2 .ensures, c .before .before .before .before .read2 .ensures, c .before .before .before .before .before .r5 .ensures, c .before .before .before .before .before .before .before .read .ensures, c .before .before .before .before .before .before .before .before .d5 .ensures, c .before .before .before .before .before .before .before .before .before .before .before .leaves .ensures)
-    (record { core = skips (a .regs .now) (a .pc0) (a .sp0) (a .sreg0) (a .inhibit0) (a .in-service0) (a .chip) (c .before .before .before .before .before .before .before .before .before .before .before .before .before .before .before .fits .pc0 .fits) (a .program .now) (eqb (getD (a .regs .now) (d5 (a .opcode)) 0) (getD (a .regs .now) (r5 (a .opcode)) 0)); bytes = refl })
+    let a = c .before .before .before .before .before .before .before .before .before .before .args in
+    rw (c .before .before .before .before .before .match .keys4, found 19, c .wrapping-add-u162 .ensures, c .before .before .words-over .ensures, c .before .before .before .equal .ensures, c .before .before .before .before .before .before .leaves .ensures)
+    (record { core = skips (a .regs .now) (a .pc0) (a .sp0) (a .sreg0) (a .inhibit0) (a .in-service0) (a .chip) (c .before .before .before .before .before .before .before .before .before .before .fits .pc0 .fits) (a .program .now) (eqb (getD (a .regs .now) (d5 (a .opcode)) 0) (getD (a .regs .now) (r5 (a .opcode)) 0)); bytes = refl })
 
 on-ICALL : tie.Need-returns-5
 unfolding withRegs withReg withPc withSp withBusy withInhibit withService withChip
@@ -62,7 +62,7 @@ on-IJMP c =
 on-JMP : tie.Need-returns-7
 unfolding withRegs withReg withPc withSp withBusy withInhibit withService withChip
 on-JMP c =
-    rw (c .before .before .match .keys7, found 29, c .k222 .ensures, c .before .get-progmem3 .ensures, c .before .before .before .leaves .ensures)
+    rw (c .before .match .keys7, found 29, c .target2 .ensures, c .before .before .leaves .ensures)
     (record { core = refl; bytes = refl })
 
 on-RCALL : tie.Need-returns-8
@@ -92,95 +92,95 @@ on-RJMP c =
 on-SBIC : tie.Need-returns-12
 unfolding withRegs withReg withPc withSp withBusy withInhibit withService withChip
 on-SBIC c =
-    let a = c .before .before .before .before .before .before .before .before .before .before .before .before .before .args in
-    rw (c .before .before .before .before .before .before .before .before .match .keys12, found 66, c .wrapping-add-u167 .ensures, c .before .before .words-over2 .ensures, c .before .before .before .get-progmem4 .ensures, c .before .before .before .before .data-bit-is .ensures, c .before .before .before .before .before .b33 .ensures, c .before .before .before .before .before .before .A5 .ensures, c .before .before .before .before .before .before .before .before .before .leaves .ensures)
-    (record { core = skips (a .regs .now) (a .pc0) (a .sp0) (a .sreg0) (a .inhibit0) (a .in-service0) (a .chip) (c .before .before .before .before .before .before .before .before .before .before .before .before .before .fits .pc0 .fits) (a .program .now) (dataBitIs (a .«data» .now) (A5 (a .opcode)) (b3 (a .opcode)) false); bytes = refl })
+    let a = c .before .before .before .before .before .before .before .before .before .before .args in
+    rw (c .before .before .before .before .before .match .keys12, found 66, c .wrapping-add-u167 .ensures, c .before .before .words-over2 .ensures, c .before .before .before .data-bit-is .ensures, c .before .before .before .before .before .before .leaves .ensures)
+    (record { core = skips (a .regs .now) (a .pc0) (a .sp0) (a .sreg0) (a .inhibit0) (a .in-service0) (a .chip) (c .before .before .before .before .before .before .before .before .before .before .fits .pc0 .fits) (a .program .now) (dataBitIs (a .«data» .now) (A5 (a .opcode)) (b3 (a .opcode)) false); bytes = refl })
 
 on-SBIS : tie.Need-returns-13
 unfolding withRegs withReg withPc withSp withBusy withInhibit withService withChip
 on-SBIS c =
-    let a = c .before .before .before .before .before .before .before .before .before .before .before .before .before .args in
-    rw (c .before .before .before .before .before .before .before .before .match .keys13, found 67, c .wrapping-add-u168 .ensures, c .before .before .words-over3 .ensures, c .before .before .before .get-progmem5 .ensures, c .before .before .before .before .data-bit-is2 .ensures, c .before .before .before .before .before .b34 .ensures, c .before .before .before .before .before .before .A52 .ensures, c .before .before .before .before .before .before .before .before .before .leaves .ensures)
-    (record { core = skips (a .regs .now) (a .pc0) (a .sp0) (a .sreg0) (a .inhibit0) (a .in-service0) (a .chip) (c .before .before .before .before .before .before .before .before .before .before .before .before .before .fits .pc0 .fits) (a .program .now) (dataBitIs (a .«data» .now) (A5 (a .opcode)) (b3 (a .opcode)) true); bytes = refl })
+    let a = c .before .before .before .before .before .before .before .before .before .before .args in
+    rw (c .before .before .before .before .before .match .keys13, found 67, c .wrapping-add-u168 .ensures, c .before .before .words-over3 .ensures, c .before .before .before .data-bit-is2 .ensures, c .before .before .before .before .before .before .leaves .ensures)
+    (record { core = skips (a .regs .now) (a .pc0) (a .sp0) (a .sreg0) (a .inhibit0) (a .in-service0) (a .chip) (c .before .before .before .before .before .before .before .before .before .before .fits .pc0 .fits) (a .program .now) (dataBitIs (a .«data» .now) (A5 (a .opcode)) (b3 (a .opcode)) true); bytes = refl })
 
 on-SBRC : tie.Need-returns-14
 unfolding withRegs withReg withPc withSp withBusy withInhibit withService withChip
 on-SBRC c =
-    let a = c .before .before .before .before .before .before .before .before .before .before .before .before .before .args in
-    rw (c .before .before .before .before .before .before .before .before .match .keys14, found 69, c .wrapping-add-u169 .ensures, c .before .before .words-over4 .ensures, c .before .before .before .get-progmem6 .ensures, c .before .before .before .before .register-bit-is .ensures, c .before .before .before .before .before .b35 .ensures, c .before .before .before .before .before .before .d52 .ensures, c .before .before .before .before .before .before .before .before .before .leaves .ensures)
-    (record { core = skips (a .regs .now) (a .pc0) (a .sp0) (a .sreg0) (a .inhibit0) (a .in-service0) (a .chip) (c .before .before .before .before .before .before .before .before .before .before .before .before .before .fits .pc0 .fits) (a .program .now) (Bool·beq (bit (getD (a .regs .now) (d5 (a .opcode)) 0) (b3 (a .opcode))) false); bytes = refl })
+    let a = c .before .before .before .before .before .before .before .before .before .before .args in
+    rw (c .before .before .before .before .before .match .keys14, found 69, c .wrapping-add-u169 .ensures, c .before .before .words-over4 .ensures, c .before .before .before .register-bit-is .ensures, c .before .before .before .before .before .before .leaves .ensures)
+    (record { core = skips (a .regs .now) (a .pc0) (a .sp0) (a .sreg0) (a .inhibit0) (a .in-service0) (a .chip) (c .before .before .before .before .before .before .before .before .before .before .fits .pc0 .fits) (a .program .now) (Bool·beq (bit (getD (a .regs .now) (d5 (a .opcode)) 0) (b3 (a .opcode))) false); bytes = refl })
 
 on-SBRS : tie.Need-returns-15
 unfolding withRegs withReg withPc withSp withBusy withInhibit withService withChip
 on-SBRS c =
-    let a = c .before .before .before .before .before .before .before .before .before .before .before .before .before .args in
-    rw (c .before .before .before .before .before .before .before .before .match .keys15, found 70, c .wrapping-add-u1610 .ensures, c .before .before .words-over5 .ensures, c .before .before .before .get-progmem7 .ensures, c .before .before .before .before .register-bit-is2 .ensures, c .before .before .before .before .before .b36 .ensures, c .before .before .before .before .before .before .d53 .ensures, c .before .before .before .before .before .before .before .before .before .leaves .ensures)
-    (record { core = skips (a .regs .now) (a .pc0) (a .sp0) (a .sreg0) (a .inhibit0) (a .in-service0) (a .chip) (c .before .before .before .before .before .before .before .before .before .before .before .before .before .fits .pc0 .fits) (a .program .now) (Bool·beq (bit (getD (a .regs .now) (d5 (a .opcode)) 0) (b3 (a .opcode))) true); bytes = refl })
+    let a = c .before .before .before .before .before .before .before .before .before .before .args in
+    rw (c .before .before .before .before .before .match .keys15, found 70, c .wrapping-add-u1610 .ensures, c .before .before .words-over5 .ensures, c .before .before .before .register-bit-is2 .ensures, c .before .before .before .before .before .before .leaves .ensures)
+    (record { core = skips (a .regs .now) (a .pc0) (a .sp0) (a .sreg0) (a .inhibit0) (a .in-service0) (a .chip) (c .before .before .before .before .before .before .before .before .before .before .fits .pc0 .fits) (a .program .now) (Bool·beq (bit (getD (a .regs .now) (d5 (a .opcode)) 0) (b3 (a .opcode))) true); bytes = refl })
 
 on-IN : tie.Need-returns-16
 unfolding withRegs withReg withPc withSp withBusy withInhibit withService withChip dataOf pointedOf wordIf
 on-IN c =
-    rw (c .before .before .before .before .before .before .before .before .match .keys16, found 27, c .before .before .write .ensures, c .before .before .before .d54 .ensures, c .before .before .before .before .before .get-data-space .ensures, c .before .before .before .before .before .before .before .A6 .ensures, c .before .before .before .before .before .before .before .before .before .leaves .ensures)
+    rw (c .before .before .before .before .before .before .match .keys16, found 27, c .before .before .load-to .ensures, c .before .before .before .before .A6 .ensures, c .before .before .before .before .before .before .before .leaves .ensures)
     (record { core = refl; bytes = refl })
 
 on-LDX : tie.Need-returns-17
 unfolding withRegs withReg withPc withSp withBusy withInhibit withService withChip dataOf pointedOf wordIf
 on-LDX c =
-    rw (c .before .before .before .before .before .before .match .keys17, found 30, c .before .before .ld .ensures .0, c .before .before .ld .ensures .1, c .before .before .before .before .d55 .ensures, c .before .before .before .before .before .before .before .leaves .ensures)
+    rw (c .before .before .before .before .before .match .keys17, found 30, c .before .before .ld .ensures .0, c .before .before .ld .ensures .1, c .before .before .before .before .before .before .leaves .ensures)
     (record { core = refl; bytes = refl })
 
 on-LDXinc : tie.Need-returns-18
 unfolding withRegs withReg withPc withSp withBusy withInhibit withService withChip dataOf pointedOf wordIf
 on-LDXinc c =
-    rw (c .before .before .before .before .before .before .match .keys18, found 31, c .before .before .ld2 .ensures .0, c .before .before .ld2 .ensures .1, c .before .before .before .before .d56 .ensures, c .before .before .before .before .before .before .before .leaves .ensures)
+    rw (c .before .before .before .before .before .match .keys18, found 31, c .before .before .ld2 .ensures .0, c .before .before .ld2 .ensures .1, c .before .before .before .before .before .before .leaves .ensures)
     (record { core = refl; bytes = refl })
 
 on-LDXdec : tie.Need-returns-19
 unfolding withRegs withReg withPc withSp withBusy withInhibit withService withChip dataOf pointedOf wordIf
 on-LDXdec c =
-    rw (c .before .before .before .before .before .before .match .keys19, found 32, c .before .before .ld3 .ensures .0, c .before .before .ld3 .ensures .1, c .before .before .before .before .d57 .ensures, c .before .before .before .before .before .before .before .leaves .ensures)
+    rw (c .before .before .before .before .before .match .keys19, found 32, c .before .before .ld3 .ensures .0, c .before .before .ld3 .ensures .1, c .before .before .before .before .before .before .leaves .ensures)
     (record { core = refl; bytes = refl })
 
 on-LDYinc : tie.Need-returns-20
 unfolding withRegs withReg withPc withSp withBusy withInhibit withService withChip dataOf pointedOf wordIf
 on-LDYinc c =
-    rw (c .before .before .before .before .before .before .match .keys20, found 33, c .before .before .ld4 .ensures .0, c .before .before .ld4 .ensures .1, c .before .before .before .before .d58 .ensures, c .before .before .before .before .before .before .before .leaves .ensures)
+    rw (c .before .before .before .before .before .match .keys20, found 33, c .before .before .ld4 .ensures .0, c .before .before .ld4 .ensures .1, c .before .before .before .before .before .before .leaves .ensures)
     (record { core = refl; bytes = refl })
 
 on-LDYdec : tie.Need-returns-21
 unfolding withRegs withReg withPc withSp withBusy withInhibit withService withChip dataOf pointedOf wordIf
 on-LDYdec c =
-    rw (c .before .before .before .before .before .before .match .keys21, found 34, c .before .before .ld5 .ensures .0, c .before .before .ld5 .ensures .1, c .before .before .before .before .d59 .ensures, c .before .before .before .before .before .before .before .leaves .ensures)
+    rw (c .before .before .before .before .before .match .keys21, found 34, c .before .before .ld5 .ensures .0, c .before .before .ld5 .ensures .1, c .before .before .before .before .before .before .leaves .ensures)
     (record { core = refl; bytes = refl })
 
 on-LDZinc : tie.Need-returns-22
 unfolding withRegs withReg withPc withSp withBusy withInhibit withService withChip dataOf pointedOf wordIf
 on-LDZinc c =
-    rw (c .before .before .before .before .before .before .match .keys22, found 35, c .before .before .ld6 .ensures .0, c .before .before .ld6 .ensures .1, c .before .before .before .before .d510 .ensures, c .before .before .before .before .before .before .before .leaves .ensures)
+    rw (c .before .before .before .before .before .match .keys22, found 35, c .before .before .ld6 .ensures .0, c .before .before .ld6 .ensures .1, c .before .before .before .before .before .before .leaves .ensures)
     (record { core = refl; bytes = refl })
 
 on-LDZdec : tie.Need-returns-23
 unfolding withRegs withReg withPc withSp withBusy withInhibit withService withChip dataOf pointedOf wordIf
 on-LDZdec c =
-    rw (c .before .before .before .before .before .before .match .keys23, found 36, c .before .before .ld7 .ensures .0, c .before .before .ld7 .ensures .1, c .before .before .before .before .d511 .ensures, c .before .before .before .before .before .before .before .leaves .ensures)
+    rw (c .before .before .before .before .before .match .keys23, found 36, c .before .before .ld7 .ensures .0, c .before .before .ld7 .ensures .1, c .before .before .before .before .before .before .leaves .ensures)
     (record { core = refl; bytes = refl })
 
 on-LDDY : tie.Need-returns-24
 unfolding withRegs withReg withPc withSp withBusy withInhibit withService withChip dataOf pointedOf wordIf
 on-LDDY c =
-    rw (c .before .before .before .before .before .before .before .match .keys24, found 37, c .before .before .ld8 .ensures .0, c .before .before .ld8 .ensures .1, c .before .before .before .before .d512 .ensures, c .before .before .before .before .before .before .q6 .ensures, c .before .before .before .before .before .before .before .before .leaves .ensures)
+    rw (c .before .before .before .before .before .before .match .keys24, found 37, c .before .before .ld8 .ensures .0, c .before .before .ld8 .ensures .1, c .before .before .before .before .before .q6 .ensures, c .before .before .before .before .before .before .before .leaves .ensures)
     (record { core = refl; bytes = refl })
 
 on-LDDZ : tie.Need-returns-25
 unfolding withRegs withReg withPc withSp withBusy withInhibit withService withChip dataOf pointedOf wordIf
 on-LDDZ c =
-    rw (c .before .before .before .before .before .before .before .match .keys25, found 38, c .before .before .ld9 .ensures .0, c .before .before .ld9 .ensures .1, c .before .before .before .before .d513 .ensures, c .before .before .before .before .before .before .q62 .ensures, c .before .before .before .before .before .before .before .before .leaves .ensures)
+    rw (c .before .before .before .before .before .before .match .keys25, found 38, c .before .before .ld9 .ensures .0, c .before .before .ld9 .ensures .1, c .before .before .before .before .before .q62 .ensures, c .before .before .before .before .before .before .before .leaves .ensures)
     (record { core = refl; bytes = refl })
 
 on-LDS : tie.Need-returns-26
 unfolding withRegs withReg withPc withSp withBusy withInhibit withService withChip dataOf pointedOf wordIf
 on-LDS c =
-    rw (c .before .before .before .before .before .before .before .before .before .match .keys26, found 40, c .wrapping-add-u1611 .ensures, c .before .before .before .write2 .ensures, c .before .before .before .before .d514 .ensures, c .before .before .before .before .before .before .get-data-space2 .ensures, c .before .before .before .before .before .before .before .before .get-progmem8 .ensures, c .before .before .before .before .before .before .before .before .before .before .leaves .ensures)
+    rw (c .before .before .before .before .before .before .before .match .keys26, found 40, c .wrapping-add-u1611 .ensures, c .before .before .before .load-to2 .ensures, c .before .before .before .before .before .before .get-progmem .ensures, c .before .before .before .before .before .before .before .before .leaves .ensures)
     (record { core = refl; bytes = refl })
 
 on-LPM : tie.Need-returns-27
@@ -192,128 +192,128 @@ on-LPM c =
 on-LPMZ : tie.Need-returns-28
 unfolding withRegs withReg withPc withSp withBusy withInhibit withService withChip dataOf pointedOf wordIf
 on-LPMZ c =
-    rw (c .before .before .before .before .before .match .keys28, found 42, c .before .before .lpm2 .ensures .0, c .before .before .lpm2 .ensures .1, c .before .before .before .d515 .ensures, c .before .before .before .before .before .before .leaves .ensures)
+    rw (c .before .before .before .before .before .match .keys28, found 42, c .before .before .lpm2 .ensures .0, c .before .before .lpm2 .ensures .1, c .before .before .before .d5 .ensures, c .before .before .before .before .before .before .leaves .ensures)
     (record { core = refl; bytes = refl })
 
 on-LPMZinc : tie.Need-returns-29
 unfolding withRegs withReg withPc withSp withBusy withInhibit withService withChip dataOf pointedOf wordIf
 on-LPMZinc c =
-    rw (c .before .before .before .before .before .match .keys29, found 43, c .before .before .lpm3 .ensures .0, c .before .before .lpm3 .ensures .1, c .before .before .before .d516 .ensures, c .before .before .before .before .before .before .leaves .ensures)
+    rw (c .before .before .before .before .before .match .keys29, found 43, c .before .before .lpm3 .ensures .0, c .before .before .lpm3 .ensures .1, c .before .before .before .d52 .ensures, c .before .before .before .before .before .before .leaves .ensures)
     (record { core = refl; bytes = refl })
 
 on-OUT : tie.Need-returns-30
 unfolding withRegs withReg withPc withSp withBusy withInhibit withService withChip
 on-OUT c =
-    let a = c .before .before .before .before .before .before .before .before .before .before .before .before .before .args in
-    let e = rw (c .before .before .before .before .A62 .ensures, c .before .before .before .before .before .read3 .ensures, c .before .before .before .before .before .before .d517 .ensures) at (c .before .before .set-data-space .ensures) in
-    rw (c .before .before .before .before .before .before .before .before .match .keys30, found 55)
+    let a = c .before .before .before .before .before .before .before .before .before .before .before .args in
+    let e = rw (c .before .before .before .before .A62 .ensures) at (c .before .before .store-from .ensures) in
+    rw (c .before .before .before .before .before .before .match .keys30, found 55)
     (let l = out-leaves (a .pc0) (a .sp0) (a .sreg0) (a .inhibit0) (a .in-service0) (a .chip) (a .«data» .now) (a .regs .now) (d5 (a .opcode)) (A6 (a .opcode)) (e .0) (e .1) in record { core = l .core; bytes = l .bytes })
 
 on-POP : tie.Need-returns-31
 unfolding withRegs withReg withPc withSp withBusy withInhibit withService withChip dataOf pointedOf wordIf
 on-POP c =
-    rw (c .before .before .before .before .before .before .before .before .before .match .keys31, found 56, c .before .before .write3 .ensures, c .before .before .before .d518 .ensures, c .before .before .before .before .before .get-data-space3 .ensures, c .before .before .before .before .before .before .before .before .wrapping-add-u1612 .ensures, c .before .before .before .before .before .before .before .before .before .before .leaves .ensures)
+    rw (c .before .before .before .before .before .before .before .match .keys31, found 56, c .before .before .load-to3 .ensures, c .before .before .before .before .before .before .wrapping-add-u1612 .ensures, c .before .before .before .before .before .before .before .before .leaves .ensures)
     (record { core = refl; bytes = refl })
 
 on-PUSH : tie.Need-returns-32
 unfolding withRegs withReg withPc withSp withBusy withInhibit withService withChip
 on-PUSH c =
-    let a = c .before .before .before .before .before .before .before .before .before .before .before .before .before .args in
-    let e = rw (c .before .before .before .before .before .read4 .ensures, c .before .before .before .before .before .before .d519 .ensures) at (c .before .before .before .set-data-space2 .ensures) in
-    let lower : c .wrapping-sub-u16 .result ≡ down (c .before .before .before .set-data-space2 .result .sp) 1 = omega arith in
-    rw (c .before .before .before .before .before .before .before .before .match .keys32, found 57)
+    let a = c .before .before .before .before .before .before .before .before .before .before .before .args in
+    let e = c .before .before .before .store-from2 .ensures in
+    let lower : c .wrapping-sub-u16 .result ≡ down (c .before .before .before .store-from2 .result .sp) 1 = omega arith in
+    rw (c .before .before .before .before .before .before .match .keys32, found 57)
     (let l = push-leaves (a .pc0) (a .sp0) (a .sreg0) (a .inhibit0) (a .in-service0) (a .chip) (a .«data» .now) (a .regs .now) (d5 (a .opcode)) (e .0) (e .1) lower in record { core = l .core; bytes = l .bytes })
 
 on-STX : tie.Need-returns-33
 unfolding withRegs withReg withPc withSp withBusy withInhibit withService withChip
 on-STX c =
-    let a = c .before .before .before .before .before .before .before .before .before .before .before .before .before .args in
-    let e = rw (c .before .before .before .before .before .before .d520 .ensures) at (c .before .before .before .before .st .ensures) in
-    rw (c .before .before .before .before .before .before .before .before .match .keys33, found 72)
+    let a = c .before .before .before .before .before .before .before .before .before .before .before .before .args in
+    let e = c .before .before .before .before .st .ensures in
+    rw (c .before .before .before .before .before .before .before .match .keys33, found 72)
     (let l = st-leaves (a .pc0) (a .sp0) (a .sreg0) (a .inhibit0) (a .in-service0) (a .chip) (a .«data» .now) (a .regs .now) (d5 (a .opcode)) 26 0 false false (e .0) (e .1 .0) (e .1 .1) in record { core = l .core; bytes = l .bytes })
 
 on-STXdec : tie.Need-returns-34
 unfolding withRegs withReg withPc withSp withBusy withInhibit withService withChip
 on-STXdec c =
-    let a = c .before .before .before .before .before .before .before .before .before .before .before .before .before .args in
-    let e = rw (c .before .before .before .before .before .before .d521 .ensures) at (c .before .before .before .before .st2 .ensures) in
-    rw (c .before .before .before .before .before .before .before .before .match .keys34, found 73)
+    let a = c .before .before .before .before .before .before .before .before .before .before .before .before .args in
+    let e = c .before .before .before .before .st2 .ensures in
+    rw (c .before .before .before .before .before .before .before .match .keys34, found 73)
     (let l = st-leaves (a .pc0) (a .sp0) (a .sreg0) (a .inhibit0) (a .in-service0) (a .chip) (a .«data» .now) (a .regs .now) (d5 (a .opcode)) 26 0 true false (e .0) (e .1 .0) (e .1 .1) in record { core = l .core; bytes = l .bytes })
 
 on-STXinc : tie.Need-returns-35
 unfolding withRegs withReg withPc withSp withBusy withInhibit withService withChip
 on-STXinc c =
-    let a = c .before .before .before .before .before .before .before .before .before .before .before .before .before .args in
-    let e = rw (c .before .before .before .before .before .before .d522 .ensures) at (c .before .before .before .before .st3 .ensures) in
-    rw (c .before .before .before .before .before .before .before .before .match .keys35, found 74)
+    let a = c .before .before .before .before .before .before .before .before .before .before .before .before .args in
+    let e = c .before .before .before .before .st3 .ensures in
+    rw (c .before .before .before .before .before .before .before .match .keys35, found 74)
     (let l = st-leaves (a .pc0) (a .sp0) (a .sreg0) (a .inhibit0) (a .in-service0) (a .chip) (a .«data» .now) (a .regs .now) (d5 (a .opcode)) 26 0 false true (e .0) (e .1 .0) (e .1 .1) in record { core = l .core; bytes = l .bytes })
 
 on-STYdec : tie.Need-returns-36
 unfolding withRegs withReg withPc withSp withBusy withInhibit withService withChip
 on-STYdec c =
-    let a = c .before .before .before .before .before .before .before .before .before .before .before .before .before .args in
-    let e = rw (c .before .before .before .before .before .before .d523 .ensures) at (c .before .before .before .before .st4 .ensures) in
-    rw (c .before .before .before .before .before .before .before .before .match .keys36, found 75)
+    let a = c .before .before .before .before .before .before .before .before .before .before .before .before .args in
+    let e = c .before .before .before .before .st4 .ensures in
+    rw (c .before .before .before .before .before .before .before .match .keys36, found 75)
     (let l = st-leaves (a .pc0) (a .sp0) (a .sreg0) (a .inhibit0) (a .in-service0) (a .chip) (a .«data» .now) (a .regs .now) (d5 (a .opcode)) 28 0 true false (e .0) (e .1 .0) (e .1 .1) in record { core = l .core; bytes = l .bytes })
 
 on-STYinc : tie.Need-returns-37
 unfolding withRegs withReg withPc withSp withBusy withInhibit withService withChip
 on-STYinc c =
-    let a = c .before .before .before .before .before .before .before .before .before .before .before .before .before .args in
-    let e = rw (c .before .before .before .before .before .before .d524 .ensures) at (c .before .before .before .before .st5 .ensures) in
-    rw (c .before .before .before .before .before .before .before .before .match .keys37, found 76)
+    let a = c .before .before .before .before .before .before .before .before .before .before .before .before .args in
+    let e = c .before .before .before .before .st5 .ensures in
+    rw (c .before .before .before .before .before .before .before .match .keys37, found 76)
     (let l = st-leaves (a .pc0) (a .sp0) (a .sreg0) (a .inhibit0) (a .in-service0) (a .chip) (a .«data» .now) (a .regs .now) (d5 (a .opcode)) 28 0 false true (e .0) (e .1 .0) (e .1 .1) in record { core = l .core; bytes = l .bytes })
 
 on-STZdec : tie.Need-returns-38
 unfolding withRegs withReg withPc withSp withBusy withInhibit withService withChip
 on-STZdec c =
-    let a = c .before .before .before .before .before .before .before .before .before .before .before .before .before .args in
-    let e = rw (c .before .before .before .before .before .before .d525 .ensures) at (c .before .before .before .before .st6 .ensures) in
-    rw (c .before .before .before .before .before .before .before .before .match .keys38, found 77)
+    let a = c .before .before .before .before .before .before .before .before .before .before .before .before .args in
+    let e = c .before .before .before .before .st6 .ensures in
+    rw (c .before .before .before .before .before .before .before .match .keys38, found 77)
     (let l = st-leaves (a .pc0) (a .sp0) (a .sreg0) (a .inhibit0) (a .in-service0) (a .chip) (a .«data» .now) (a .regs .now) (d5 (a .opcode)) 30 0 true false (e .0) (e .1 .0) (e .1 .1) in record { core = l .core; bytes = l .bytes })
 
 on-STZinc : tie.Need-returns-39
 unfolding withRegs withReg withPc withSp withBusy withInhibit withService withChip
 on-STZinc c =
-    let a = c .before .before .before .before .before .before .before .before .before .before .before .before .before .args in
-    let e = rw (c .before .before .before .before .before .before .d526 .ensures) at (c .before .before .before .before .st7 .ensures) in
-    rw (c .before .before .before .before .before .before .before .before .match .keys39, found 78)
+    let a = c .before .before .before .before .before .before .before .before .before .before .before .before .args in
+    let e = c .before .before .before .before .st7 .ensures in
+    rw (c .before .before .before .before .before .before .before .match .keys39, found 78)
     (let l = st-leaves (a .pc0) (a .sp0) (a .sreg0) (a .inhibit0) (a .in-service0) (a .chip) (a .«data» .now) (a .regs .now) (d5 (a .opcode)) 30 0 false true (e .0) (e .1 .0) (e .1 .1) in record { core = l .core; bytes = l .bytes })
 
 on-STDY : tie.Need-returns-40
 unfolding withRegs withReg withPc withSp withBusy withInhibit withService withChip
 on-STDY c =
-    let a = c .before .before .before .before .before .before .before .before .before .before .before .before .before .before .args in
-    let e = rw (c .before .before .before .before .before .before .d527 .ensures, c .before .before .before .before .before .before .before .before .q63 .ensures) at (c .before .before .before .before .st8 .ensures) in
-    rw (c .before .before .before .before .before .before .before .before .before .match .keys40, found 79)
+    let a = c .before .before .before .before .before .before .before .before .before .before .before .before .before .args in
+    let e = rw (c .before .before .before .before .before .before .before .q63 .ensures) at (c .before .before .before .before .st8 .ensures) in
+    rw (c .before .before .before .before .before .before .before .before .match .keys40, found 79)
     (let l = st-leaves (a .pc0) (a .sp0) (a .sreg0) (a .inhibit0) (a .in-service0) (a .chip) (a .«data» .now) (a .regs .now) (d5 (a .opcode)) 28 (q6 (a .opcode)) false false (e .0) (e .1 .0) (e .1 .1) in record { core = l .core; bytes = l .bytes })
 
 on-STDZ : tie.Need-returns-41
 unfolding withRegs withReg withPc withSp withBusy withInhibit withService withChip
 on-STDZ c =
-    let a = c .before .before .before .before .before .before .before .before .before .before .before .before .before .before .args in
-    let e = rw (c .before .before .before .before .before .before .d528 .ensures, c .before .before .before .before .before .before .before .before .q64 .ensures) at (c .before .before .before .before .st9 .ensures) in
-    rw (c .before .before .before .before .before .before .before .before .before .match .keys41, found 80)
+    let a = c .before .before .before .before .before .before .before .before .before .before .before .before .before .args in
+    let e = rw (c .before .before .before .before .before .before .before .q64 .ensures) at (c .before .before .before .before .st9 .ensures) in
+    rw (c .before .before .before .before .before .before .before .before .match .keys41, found 80)
     (let l = st-leaves (a .pc0) (a .sp0) (a .sreg0) (a .inhibit0) (a .in-service0) (a .chip) (a .«data» .now) (a .regs .now) (d5 (a .opcode)) 30 (q6 (a .opcode)) false false (e .0) (e .1 .0) (e .1 .1) in record { core = l .core; bytes = l .bytes })
 
 on-STS : tie.Need-returns-42
 unfolding withRegs withReg withPc withSp withBusy withInhibit withService withChip
 on-STS c =
-    let a = c .before .before .before .before .before .before .before .before .before .before .before .before .before .before .args in
-    let e = rw (c .before .before .before .before .before .read5 .ensures, c .before .before .before .before .before .before .d529 .ensures, c .before .before .before .before .before .before .before .before .get-progmem9 .ensures) at (c .before .before .before .set-data-space3 .ensures) in
-    rw (c .before .before .before .before .before .before .before .before .before .match .keys42, found 81, c .wrapping-add-u1613 .ensures)
+    let a = c .before .before .before .before .before .before .before .before .before .before .before .before .args in
+    let e = rw (c .before .before .before .before .before .before .get-progmem2 .ensures) at (c .before .before .before .store-from3 .ensures) in
+    rw (c .before .before .before .before .before .before .before .match .keys42, found 81, c .wrapping-add-u1613 .ensures)
     (let l = sts-leaves (a .pc0) (a .sp0) (a .sreg0) (a .inhibit0) (a .in-service0) (a .chip) (a .«data» .now) (a .regs .now) (d5 (a .opcode)) (programWordOf (a .program .now) (a .pc0)) (e .0) (e .1) in record { core = l .core; bytes = l .bytes })
 
 on-CBI : tie.Need-returns-43
 unfolding withRegs withReg withPc withSp withBusy withInhibit withService withChip
 on-CBI c =
-    rw (c .before .before .before .before .before .before .match .keys43, found 14, c .before .before .set-bit .ensures, c .before .before .before .b37 .ensures, c .before .before .before .before .A53 .ensures, c .before .before .before .before .before .before .before .leaves .ensures)
+    rw (c .before .before .before .before .match .keys43, found 14, c .before .before .set-io-bit .ensures, c .before .before .before .before .before .leaves .ensures)
     (record { core = refl; bytes = refl })
 
 on-SBI : tie.Need-returns-44
 unfolding withRegs withReg withPc withSp withBusy withInhibit withService withChip
 on-SBI c =
-    rw (c .before .before .before .before .before .before .match .keys44, found 65, c .before .before .set-bit2 .ensures, c .before .before .before .b38 .ensures, c .before .before .before .before .A54 .ensures, c .before .before .before .before .before .before .before .leaves .ensures)
+    rw (c .before .before .before .before .match .keys44, found 65, c .before .before .set-io-bit2 .ensures, c .before .before .before .before .before .leaves .ensures)
     (record { core = refl; bytes = refl })
 
 on-others : tie.Need-returns-45
@@ -332,29 +332,13 @@ effect-spec =
     (λ c κs. search needs)
     (λ c κs. search needs)
     (λ c κs. search needs)
-    (λ c κs. search needs)
-    (λ c κs. search needs)
-    (λ c κs. search needs)
-    (λ c. search needs)
-    (λ c κs. search needs)
-    (λ c κs. search needs)
-    (λ c κs. search needs)
-    (λ c κs. search needs)
-    (λ c κs. search needs)
     (λ c. search needs)
     (λ c κs. search needs)
     (λ c κs. search needs)
     (λ c. search needs)
     (λ c κs. search needs)
     (λ c κs. search needs)
-    (λ c. search needs)
     (λ c κs. search needs)
-    (λ c. search needs)
-    (λ c κs. search needs)
-    (λ c κs. search needs)
-    (λ c. search needs)
-    (λ c κs. search needs)
-    (λ c. search needs)
     (λ c κs. search needs)
     (λ c κs. search needs)
     (λ c. search needs)
@@ -364,10 +348,6 @@ effect-spec =
     (λ c κs. search needs)
     (λ c. search needs)
     (λ c κs. search needs)
-    (λ c. search needs)
-    (λ c κs. search needs)
-    (λ c κs. search needs)
-    (λ c. search needs)
     (λ c κs. search needs)
     (λ c κs. search needs)
     (λ c κs. search needs)
@@ -383,16 +363,12 @@ effect-spec =
     (λ c. search needs)
     (λ c κs. search needs)
     (λ c κs. search needs)
-    (λ c. search needs)
-    (λ c κs. search needs)
-    (λ c κs. search needs)
-    (λ c κs. search needs)
     (λ c κs. search needs)
     (λ c. search needs)
     (λ c κs. search needs)
     (λ c κs. search needs)
-    (λ c. search needs)
     (λ c κs. search needs)
+    (λ c. search needs)
     (λ c κs. search needs)
     (λ c κs. search needs)
     (λ c κs. search needs)
@@ -404,10 +380,23 @@ effect-spec =
     (λ c κs. search needs)
     (λ c κs. search needs)
     (λ c κs. search needs)
-    (λ c. search needs)
+    (λ c κs. search needs)
+    (λ c κs. search needs)
+    (λ c κs. search needs)
+    (λ c κs. search needs)
+    (λ c κs. search needs)
+    (λ c κs. search needs)
     (λ c κs. search needs)
     (λ c κs. search needs)
     (λ c. search needs)
+    (λ c κs. search needs)
+    (λ c. search needs)
+    (λ c κs. search needs)
+    (λ c κs. search needs)
+    (λ c κs. search needs)
+    (λ c κs. search needs)
+    (λ c κs. search needs)
+    (λ c κs. search needs)
     (λ c κs. search needs)
     (λ c κs. search needs)
     (λ c. search needs)
@@ -428,77 +417,11 @@ effect-spec =
     (λ c κs. search needs)
     (λ c κs. search needs)
     (λ c κs. search needs)
-    (λ c κs. search needs)
-    (λ c κs. search needs)
-    (λ c κs. search needs)
-    (λ c κs. search needs)
-    (λ c κs. search needs)
-    (λ c κs. search needs)
-    (λ c κs. search needs)
     (λ c. search needs)
     (λ c κs. search needs)
     (λ c. search needs)
     (λ c κs. search needs)
     (λ c κs. search needs)
-    (λ c. search needs)
-    (λ c κs. search needs)
-    (λ c κs. search needs)
-    (λ c κs. search needs)
-    (λ c κs. search needs)
-    (λ c κs. search needs)
-    (λ c κs. search needs)
-    (λ c κs. search needs)
-    (λ c κs. search needs)
-    (λ c. search needs)
-    (λ c κs. search needs)
-    (λ c κs. search needs)
-    (λ c. search needs)
-    (λ c κs. search needs)
-    (λ c κs. search needs)
-    (λ c. search needs)
-    (λ c κs. search needs)
-    (λ c κs. search needs)
-    (λ c. search needs)
-    (λ c κs. search needs)
-    (λ c κs. search needs)
-    (λ c. search needs)
-    (λ c κs. search needs)
-    (λ c κs. search needs)
-    (λ c κs. search needs)
-    (λ c κs. search needs)
-    (λ c κs. search needs)
-    (λ c κs. search needs)
-    (λ c κs. search needs)
-    (λ c κs. search needs)
-    (λ c κs. search needs)
-    (λ c κs. search needs)
-    (λ c κs. search needs)
-    (λ c κs. search needs)
-    (λ c κs. search needs)
-    (λ c κs. search needs)
-    (λ c κs. search needs)
-    (λ c κs. search needs)
-    (λ c κs. search needs)
-    (λ c κs. search needs)
-    (λ c κs. search needs)
-    (λ c κs. search needs)
-    (λ c κs. search needs)
-    (λ c κs. search needs)
-    (λ c κs. search needs)
-    (λ c. search needs)
-    (λ c κs. search needs)
-    (λ c κs. search needs)
-    (λ c. search needs)
-    (λ c κs. search needs)
-    (λ c. search needs)
-    (λ c κs. search needs)
-    (λ c κs. search needs)
-    (λ c κs. search needs)
-    (λ c. search needs)
-    (λ c κs. search needs)
-    (λ c κs. search needs)
-    (λ c κs. search needs)
-    (λ c. search needs)
     (λ c κs. search needs)
     (λ c κs. search needs)
     (λ c κs. search needs)

@@ -1,4 +1,4 @@
--- `data_bit_is`: the byte is there, and its bit.
+-- `data_bit_is`: what its calls ensure, put together.
 -- Assumes nothing.
 use borrow.Author.Needs.{needs}
 use Rattle.effects.proofs.hops.data_bit_is.Statement.{statement}
@@ -9,6 +9,9 @@ data-bit-is-spec =
     tie.close
     (tie.spec
     (λ c κs. search needs)
+    (λ c. search needs)
     (λ c κs. search needs)
     (λ c κs. search needs)
-    (λ c. rw (c .bit .ensures, c .before .read .ensures, c .before .before .has .ensures)))
+    (λ c κs. search needs)
+    (λ c κs. search needs)
+    (λ c. rw (c .bit .ensures, c .before .b3 .ensures, c .before .before .read .ensures, c .before .before .before .has .ensures, c .before .before .before .before .A5 .ensures)))

@@ -1,4 +1,4 @@
--- `flag_is`: the bit of SREG.
+-- `flag_is`: what its calls ensure, put together.
 -- Assumes nothing.
 use borrow.Author.Needs.{needs}
 use Rattle.effects.proofs.hops.flag_is.Statement.{statement}
@@ -9,4 +9,5 @@ flag-is-spec =
     tie.close
     (tie.spec
     (λ c κs. search needs)
-    (λ c. rw (c .bit .ensures)))
+    (λ c κs. search needs)
+    (λ c. rw (c .bit .ensures, c .before .b3 .ensures)))

@@ -1,4 +1,4 @@
--- `hop` is its definition.
+-- `hop`: by whether the branch is taken.
 -- Assumes nothing.
 use borrow.Author.Needs.{needs}
 use Rattle.effects.proofs.hops.hop.Statement.{statement}
@@ -9,5 +9,7 @@ hop-spec =
     tie.close
     (tie.spec
     (λ c κs. search needs)
-    (λ c. rw (c .before .if1 .taken, c .wrapping-add-u16 .ensures))
+    (λ c κs. search needs)
+    (λ c κs. search needs)
+    (λ c. rw (c .before .before .before .if1 .taken, c .wrapping-add-u16 .ensures, c .before .signed .ensures, c .before .before .k7 .ensures))
     (λ c. rw (c .if1 .left)))

@@ -1,4 +1,4 @@
--- `register_bit_is`: the bit of the register's byte.
+-- `register_bit_is`: what its calls ensure, put together.
 -- Assumes nothing.
 use borrow.Author.Needs.{needs}
 use Rattle.effects.proofs.hops.register_bit_is.Statement.{statement}
@@ -9,5 +9,8 @@ register-bit-is-spec =
     tie.close
     (tie.spec
     (λ c κs. search needs)
+    (λ c. search needs)
     (λ c κs. search needs)
-    (λ c. rw (c .bit .ensures, c .before .read .ensures)))
+    (λ c κs. search needs)
+    (λ c κs. search needs)
+    (λ c. rw (c .bit .ensures, c .before .b3 .ensures, c .before .before .read .ensures, c .before .before .before .d5 .ensures)))

@@ -18,7 +18,6 @@ st-spec =
     (λ c κs. search needs)
     (λ c κs. search needs)
     (λ c κs. search needs)
-    (λ c κs. search needs)
     (λ c. search needs)
     (λ c. search needs)
-    (λ c. rw (c .leaves .ensures, c .before .store-waits .ensures, c .before .before .before .before .set-word-if2 .ensures, c .before .before .before .before .before .wrapping-add-u16 .ensures, c .before .before .before .before .before .before .before .before .before .set-data-space .ensures .0, c .before .before .before .before .before .before .before .before .before .set-data-space .ensures .1, c .before .before .before .before .before .before .before .before .before .before .before .read .ensures, c .before .before .before .before .before .before .before .before .before .before .before .before .before .before .before .set-word-if .ensures, c .before .before .before .before .before .before .before .before .before .before .before .before .before .before .before .before .before .pointed .ensures) (refl, (refl, refl))))
+    (λ c. rw (c .leaves .ensures, c .before .store-waits .ensures, c .before .before .before .before .set-word-if2 .ensures, c .before .before .before .before .before .wrapping-add-u16 .ensures, c .before .before .before .before .before .before .before .before .before .store-from .ensures .0, c .before .before .before .before .before .before .before .before .before .store-from .ensures .1, c .before .before .before .before .before .before .before .before .before .before .before .before .before .before .set-word-if .ensures, c .before .before .before .before .before .before .before .before .before .before .before .before .before .before .before .before .pointed .ensures) (refl, (refl, refl))))
