@@ -32,7 +32,7 @@ unfolding ran
 runs-none k p m o e = record { answer = ap (λ x. x .answer) e; count = ap (λ x. x .ticks) e; core = ap (λ x. x .core) e; bytes = refl }
 
 -- "Busy above 4: refusal 5."
-too-busy : (k : Core) (p m : List ℕ) (o : Offer) → 4 < k .busy → tickOf k p m o ≡ gives (Refused 5) k m
+pub too-busy : (k : Core) (p m : List ℕ) (o : Offer) → 4 < k .busy → tickOf k p m o ≡ gives (Refused 5) k m
 unfolding ticked
 too-busy k p m o h = rw (lt-ltb 4 (k .busy) h)
 
@@ -48,7 +48,7 @@ step-sound true s t x h i = h
 step-sound false true t x h i = h
 step-sound false false t x h i = i
 
-run-sound : (b : ℕ) (k : Core) (p m : List ℕ) (o : Offer) → Sound k → Bytes p → Bytes m → Offered o → Sound (runOf b k p m o .core)
+pub run-sound : (b : ℕ) (k : Core) (p m : List ℕ) (o : Offer) → Sound k → Bytes p → Bytes m → Offered o → Sound (runOf b k p m o .core)
 unfolding ran
 run-sound zero k p m o h bp bm f = h
 run-sound (suc b) k p m o h bp bm f =
