@@ -1,2 +1,3 @@
--- `Host`: 01's C interface.
+-- `Host`: 01's C interface. `Schedules`: a run by 02's W5 through it.
 pub mod Host
+pub mod Schedules

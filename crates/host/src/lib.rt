@@ -5,9 +5,11 @@ ghost use Rattle.run.specs.Over.{ofCheck};
 ghost use Rattle.host.specs.Host.{offerOf, avrTickOf, avrRunOf, Tells, TellsTicks};
 
 mod hex_files;
+mod schedules;
 
 pub use hex_files::avr_hex_read;
 pub use hex_files::avr_hex_write;
+pub use schedules::avr_run_schedule;
 
 fn offer_of(offer: u32) -> Offer
     ensures { λ o. ⌜ o ≡ offerOf offer ⌝ }
