@@ -1,5 +1,5 @@
-/* Runs document 01's example through the C interface, each tick foretold, writes it as a HEX file and reads that back, and runs line 2 of 01's bench sheet and a sampling routine under both rules;
- * fails where an answer is not the one that the documents name. */
+/* Runs document 01's example through the C interface, each tick foretold, writes it as a HEX file and reads that back, runs line 2 of 01's bench sheet and a sampling routine under both rules, and
+ * a loop by an interrupt schedule; fails where an answer is not the one that the documents name. */
 #include "avr_core.h"
 #include <stdio.h>
 #include <string.h>
@@ -76,6 +76,50 @@ static int takes(uint8_t rule, uint8_t sample) {
 
 static int is_safe_behind_sei(void) { return takes(0, 0x05) && takes(AVR_RULE_CHIP, 0x2A); }
 
+/* A record of a schedule's list. */
+static void put_record(uint8_t *record, uint32_t tick, uint16_t vector) {
+    record[0] = (uint8_t)(tick >> 16);
+    record[1] = (uint8_t)(tick >> 8);
+    record[2] = (uint8_t)tick;
+    record[3] = (uint8_t)(vector >> 8);
+    record[4] = (uint8_t)vector;
+}
+
+/* 21 ticks of INC R16 and RJMP, round and round; the handler at word 2 takes R16 as its sample: MOV R17,R16; RETI. */
+static uint32_t run_by(const uint8_t *list, size_t list_len, uint8_t snapshot[AVR_SNAPSHOT_BYTES], uint8_t data[16], uint32_t *entered, size_t entered_len,
+                       uint32_t *ticks) {
+    static const uint8_t loop[] = {0x03, 0x95, 0xFE, 0xCF, 0x10, 0x2F, 0x18, 0x95};
+    return avr_run_schedule(snapshot, AVR_SNAPSHOT_BYTES, loop, sizeof loop, data, 16, list, list_len, 21, entered, entered_len, ticks);
+}
+
+/* The timer fires at tick 4, and at tick 5 while its handler runs. That one is entered when the handler has returned, at tick 13, and one instruction more has run. */
+static int follows_a_schedule(void) {
+    uint8_t snapshot[AVR_SNAPSHOT_BYTES] = {[32] = 0x80, [36] = 15}, data[16] = {0}, list[2 * AVR_RECORD_BYTES];
+    uint32_t entered[3] = {7, 7, 7}, ticks = 0;
+    put_record(list, 4, 2);
+    put_record(list + AVR_RECORD_BYTES, 5, 2);
+    if (run_by(list, sizeof list, snapshot, data, entered, 3, &ticks) != 24 || ticks != 21) return 0;
+    printf("entered at ticks %u and %u, sample %u\n", (unsigned)entered[0], (unsigned)entered[1], (unsigned)snapshot[17]);
+    return entered[0] == 4 && entered[1] == 15 && entered[2] == 7 && snapshot[17] == 2;
+}
+
+/* Of two refusals the lower is given, and nothing is changed by any. */
+static int refuses_wrong_lists(void) {
+    uint8_t snapshot[AVR_SNAPSHOT_BYTES] = {[32] = 0x80, [36] = 15}, before[AVR_SNAPSHOT_BYTES], data[16] = {0}, zeros[16] = {0}, list[2 * AVR_RECORD_BYTES];
+    uint32_t entered[2] = {7, 7}, ticks = 7;
+    memcpy(before, snapshot, sizeof before);
+    put_record(list, 0, 2);
+    put_record(list + AVR_RECORD_BYTES, 4, 2);
+    if (run_by(list, sizeof list - 1, snapshot, data, entered, 0, &ticks) != 30) return 0;
+    if (run_by(list, sizeof list, snapshot, data, entered, 1, &ticks) != 31) return 0;
+    put_record(list, 4, 2);
+    if (run_by(list, sizeof list, snapshot, data, entered, 1, &ticks) != 31) return 0;
+    put_record(list, 3, 2);
+    if (run_by(list, sizeof list, snapshot, data, entered, 1, &ticks) != 32) return 0;
+    return entered[0] == 7 && entered[1] == 7 && ticks == 7 && memcmp(before, snapshot, sizeof before) == 0 && memcmp(zeros, data, sizeof zeros) == 0;
+}
+
 int main(void) {
-    return ticks_and_runs() && foretells() && writes_and_reads() && goes_by_the_rule() && is_safe_behind_sei() ? 0 : 1;
+    int right = ticks_and_runs() && foretells() && writes_and_reads() && goes_by_the_rule() && is_safe_behind_sei();
+    return right && follows_a_schedule() && refuses_wrong_lists() ? 0 : 1;
 }
