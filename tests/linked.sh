@@ -50,6 +50,11 @@ says_the_foretold() { # COMMAND...: prints what each next tick would answer, wit
     [ "$("$@")" = "$(printf 'word %s: %s, with an offer %s\n' 0 18 18 1 18 17 2 18 17 3 16 16 3 22 17)" ]
 }
 
+says_the_schedule() { # COMMAND...: prints when each firing of the timer was entered, how the run ended, and the hottest hour
+    entries=$(printf 'fired at tick %s: entered at tick %s\n' 100 380 900 900 950 966 2000 2000)
+    [ "$("$@")" = "$(printf '%s\n' "$entries" 'fired at tick 9000: not entered' 'answer 22 after 2557 ticks' 'hottest hour 80.35')" ]
+}
+
 says_what_to_run() { # host/rust, with no archive, names the command that writes it
     said=$(AVR_CORE_LIB=$work/nowhere "$cargo" build --quiet --offline --release $target --manifest-path host/rust/Cargo.toml --target-dir target/cargo 2>&1)
     [ $? != 0 ] && echo "$said" | grep -q 'run `rt staticlib host`'
@@ -98,6 +103,7 @@ if can_link host/rust "$cargo" "$cc"; then
     try_first "$built/examples/first"
     quietly "$built/examples/rules" says_both_rules $emulator "$built/examples/rules"
     quietly "$built/examples/foretell" says_the_foretold $emulator "$built/examples/foretell"
+    quietly "$built/examples/schedule" says_the_schedule $emulator "$built/examples/schedule"
     runs_nothing 'refused-57' $emulator "$built/examples/to_hex" <"$work/bytes"
     note $? 'to_hex on too long a program'
 fi

@@ -1,7 +1,9 @@
 //! A safe door to the proved AVR core of crates/host. Every input is taken: what is wrong is refused with its number.
 
+mod schedule;
 mod snapshot;
 
+pub use schedule::{list_of, Firing, RECORD_BYTES};
 pub use snapshot::{Rule, Snapshot};
 
 /// The bytes of a snapshot: R0 to R31, SREG, PC, SP, busy 3 bits, inhibit, in-service, the rule (1 is chip), two zero bits. `Snapshot` has them by name.
@@ -40,6 +42,20 @@ extern "C" {
         budget: u32,
         ticks: *mut u32,
     ) -> u32;
+    fn avr_run_schedule(
+        snapshot: *mut u8,
+        snapshot_len: usize,
+        program: *const u8,
+        program_len: usize,
+        data: *mut u8,
+        data_len: usize,
+        list: *const u8,
+        list_len: usize,
+        budget: u32,
+        entered: *mut u32,
+        entered_len: usize,
+        ticks: *mut u32,
+    ) -> u32;
     fn avr_hex_read(text: *const u8, text_len: usize, program: *mut u8, program_len: usize, line: *mut usize) -> u32;
     fn avr_hex_write(program: *const u8, program_len: usize, text: *mut u8, text_len: usize, written: *mut usize) -> u32;
 }
@@ -70,6 +86,32 @@ pub fn run(snapshot: &mut [u8], program: &[u8], data: &mut [u8], offer: u32, bud
             data.len(),
             offer,
             budget,
+            &mut ticks,
+        )
+    };
+    (answer, ticks)
+}
+
+/// Up to `budget` ticks driven by the ticks at which interrupts fired, the records of `list`, which `list_of` makes: the answer's number, and the number of ticks done. The ticks are numbered
+/// from 1, and a record is due at its tick and at every later one; at every tick the first that is due and not yet entered is offered. `entered` gets for each record the tick of its entry, or 0
+/// where the run ended before one; numbers past the last record keep what they held. Beside `run`'s refusals there are document 02's: 30 `list` is not whole records, 31 ticks are 0 or do not
+/// rise, 32 `entered` has fewer numbers than there are records. A call that a check refuses changes nothing.
+pub fn run_schedule(snapshot: &mut [u8], program: &[u8], data: &mut [u8], list: &[u8], budget: u32, entered: &mut [u32]) -> (u32, u32) {
+    let mut ticks = 0;
+    // As above; the length of `entered` is in numbers.
+    let answer = unsafe {
+        avr_run_schedule(
+            snapshot.as_mut_ptr(),
+            snapshot.len(),
+            program.as_ptr(),
+            program.len(),
+            data.as_mut_ptr(),
+            data.len(),
+            list.as_ptr(),
+            list.len(),
+            budget,
+            entered.as_mut_ptr(),
+            entered.len(),
             &mut ticks,
         )
     };
