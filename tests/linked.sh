@@ -1,4 +1,4 @@
-# Where the tools are there: the programs of host/c, random programs by runs and by ticks (tests/runs.c), the tests and examples of host/rust, other tools on the HEX files that the port writes, and firmware/check, over the
+# Where the tools are there: the programs of host/c, random programs by runs, by schedules and by ticks (tests/runs.c, tests/schedules.c), the tests and examples of host/rust, other tools on the HEX files that the port writes, and firmware/check, over the
 # archive that `rt staticlib host` writes.
 # The archive is for x86-64. On an Arm machine Debian's cross compiler, its Rust with the library for x86-64 and an emulator stand in (as root, tests/install gets them).
 # Read by tests/run.
@@ -90,8 +90,10 @@ if can_link host/c "$cc"; then
     done
     quietly target/example $emulator target/example
     try_first target/first
-    quietly tests/runs.c "$cc" -std=gnu11 -O2 -Wall -Wextra -Werror -Iinclude tests/runs.c target/staticlib/libhost.a -o target/runs
-    quietly 'target/runs: runs against ticks' $emulator target/runs 2000 1
+    for program in runs schedules; do
+        quietly "tests/$program.c" "$cc" -std=gnu11 -O2 -Wall -Wextra -Werror -Iinclude "tests/$program.c" target/staticlib/libhost.a -o "target/$program"
+        quietly "target/$program: against ticks" $emulator "target/$program" 2000 1
+    done
 fi
 
 if can_link host/rust "$cargo" "$cc"; then
