@@ -22,7 +22,7 @@ fn same_report(outcome: &Outcome, log: &Log, what: &str) -> Result<(), String> {
 }
 
 /// As `same_report`, for the second image: its handler must also have run once for each entry.
-fn same_under_timer(outcome: &Outcome, log: &Log, what: &str) -> Result<(), String> {
+pub fn same_under_timer(outcome: &Outcome, log: &Log, what: &str) -> Result<(), String> {
     if outcome.overflows != outcome.entries {
         return Err(format!("{what}: {} entries, the handler counted {}", outcome.entries, outcome.overflows));
     }
@@ -106,16 +106,20 @@ pub fn the_old_fault_sets_14_00_against_13_00(rule: Rule) -> Verdict {
     Ok(format!("{PLACES} runs"))
 }
 
-pub fn readings(random: &mut Random, lowest: i16, values: u32) -> Vec<Reading> {
+fn readings(random: &mut Random, lowest: i16, values: u32) -> Vec<Reading> {
     let count = random.below(9);
     (0..count).map(|_| (NOON + HOUR * random.below(12), lowest + random.below(values) as i16)).collect()
+}
+
+pub fn random_log(random: &mut Random) -> Log {
+    log(&readings(random, -400, 1_001), &readings(random, 0, 101))
 }
 
 /// Readings corrected at random, and the vector offered at random ticks.
 pub fn corrected_logs_under_random_offers(rule: Rule) -> Verdict {
     let mut random = Random(0x5EED_0000_2026_1115);
     for number in 0..1_000 {
-        let log = log(&readings(&mut random, -400, 1_001), &readings(&mut random, 0, 101));
+        let log = random_log(&mut random);
         let every = 1 + random.below(200);
         let program = with_log(HEAT_INDEX_TIMER, &log);
         let outcome = Machine::fresh(&program, rule).finish(|_| random.below(every) == 0)?;

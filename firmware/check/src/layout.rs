@@ -9,7 +9,7 @@ pub const READING_BYTES: usize = 6;
 pub const SORTED: usize = 96;
 
 /// Vector 8, as a word address.
-pub const TIMER_VECTOR: u32 = 16;
+pub const TIMER_VECTOR: u16 = 16;
 
 pub type Log = [u8; LOG_BYTES];
 pub type Report = [u8; REPORT_BYTES];

@@ -1,6 +1,6 @@
-//! An image on the core, a tick at a time, with the timer's vector offered or not.
+//! An image on the core, a tick at a time, with the timer's vector offered or not; or in one call, by the ticks at which the timer fired.
 
-use avr_core::{Rule, Snapshot};
+use avr_core::{Firing, Rule, Snapshot};
 
 use crate::layout::{Report, OVERFLOWS_PLACE, REPORT_BYTES, REPORT_PLACE, TIMER_VECTOR};
 
@@ -25,6 +25,13 @@ impl Outcome {
     pub fn stored(&self, bytes: usize) -> &[u8] {
         &self.data[REPORT_PLACE..][..bytes]
     }
+}
+
+/// The same of a run by a schedule, with the tick of each entry, and how many ticks the run took.
+pub struct Followed {
+    pub outcome: Outcome,
+    pub entered: Vec<u32>,
+    pub ticks: u32,
 }
 
 #[derive(Clone)]
@@ -68,7 +75,7 @@ impl<'a> Machine<'a> {
 
     /// One tick: whether the image goes on.
     pub fn tick(&mut self, offered: bool) -> Result<bool, String> {
-        let offer = if offered { TIMER_VECTOR } else { avr_core::NO_OFFER };
+        let offer = if offered { TIMER_VECTOR.into() } else { avr_core::NO_OFFER };
         let place = self.pc();
         match avr_core::tick(&mut self.snapshot, self.program, &mut self.data, offer) {
             WAITED | RAN => Ok(true),
@@ -90,6 +97,19 @@ impl<'a> Machine<'a> {
             }
         }
         Err(format!("no BREAK in {MOST_TICKS} ticks"))
+    }
+
+    /// Runs to BREAK by the ticks at which the timer fired.
+    pub fn follow(mut self, fired: &[u32]) -> Result<Followed, String> {
+        let firings: Vec<Firing> = fired.iter().map(|&tick| Firing { tick, vector: TIMER_VECTOR }).collect();
+        let list = avr_core::list_of(&firings).ok_or("a tick of more than 24 bits")?;
+        let mut entered = vec![u32::MAX; fired.len()];
+        let (answer, ticks) = avr_core::run_schedule(&mut self.snapshot, self.program, &mut self.data, &list, MOST_TICKS, &mut entered);
+        if answer != BREAK {
+            return Err(format!("answer {answer} after {ticks} ticks"));
+        }
+        self.entries = entered.iter().filter(|&&tick| tick != 0).count() as u16;
+        Ok(Followed { outcome: self.outcome(), entered, ticks })
     }
 
     fn outcome(self) -> Outcome {

@@ -2,8 +2,8 @@
 
 use avr_core::Rule;
 
-use crate::cases::{readings, Verdict};
-use crate::layout::{bytes_of, log, temperatures, with_log, with_temperatures, CRC, SORTED};
+use crate::cases::{random_log, Verdict};
+use crate::layout::{bytes_of, temperatures, with_log, with_temperatures, CRC, SORTED};
 use crate::machine::Machine;
 use crate::native;
 use crate::random::Random;
@@ -26,7 +26,7 @@ pub fn the_crc_of_an_image_and_its_log(rule: Rule) -> Verdict {
     let mut random = Random(0x5EED_0000_2026_1116);
     same(CRC, rule, &native::crc(CRC).to_le_bytes())?;
     for _ in 0..RANDOM {
-        let program = with_log(CRC, &log(&readings(&mut random, -400, 1_001), &readings(&mut random, 0, 101)));
+        let program = with_log(CRC, &random_log(&mut random));
         same(&program, rule, &native::crc(&program).to_le_bytes())?;
     }
     Ok(format!("{} runs", 1 + RANDOM))
