@@ -4,6 +4,7 @@
 
 #[cfg(feature = "before")]
 mod before;
+mod clock;
 mod growth;
 mod original;
 mod port;

@@ -1,5 +1,7 @@
 //! What is measured: a program run from a fresh core again and again.
 
+use crate::clock::processor_time;
+
 /// A program, the vector held offered, the length of its data, and the ticks of a pass.
 pub struct Work {
     pub name: &'static str,
@@ -82,21 +84,6 @@ pub fn go(machine: &mut dyn Machine, passes: u32, ticks: u32) {
         machine.restart();
         assert!(machine.go(ticks), "a pass stopped early");
     }
-}
-
-extern "C" {
-    fn clock_gettime(clock: i32, time: *mut [i64; 2]) -> i32;
-}
-
-const CLOCK_PROCESS_CPUTIME_ID: i32 = 2;
-
-/// The processor time of this program so far, in seconds: other work on the machine is left out.
-fn processor_time() -> f64 {
-    let mut time = [0; 2];
-    // On 64-bit Linux it writes two numbers of 64 bits, seconds and nanoseconds.
-    let answer = unsafe { clock_gettime(CLOCK_PROCESS_CPUTIME_ID, &mut time) };
-    assert!(answer == 0, "Linux tells the processor time");
-    time[0] as f64 + time[1] as f64 / 1e9
 }
 
 /// Ticks a second of that many passes.
