@@ -12,11 +12,14 @@ use Rattle.tick.proofs.tick_in_place.Met as tick-in-place
 use Rattle.run.proofs.run.Met as run
 use Rattle.run.proofs.tick_in.Met as tick-in
 use Rattle.run.proofs.run_in.Met as run-in
+use Rattle.schedule.proofs.run.Met as schedule-run
+use Rattle.schedule.proofs.run_in.Met as schedule-run-in
 use Rattle.snapshot.proofs.write.Met as write
 use Rattle.snapshot.proofs.read.Met as read
 use Rattle.host.proofs.avr_tick.Met as avr-tick
 use Rattle.host.proofs.avr_foretell.Met as avr-foretell
 use Rattle.host.proofs.avr_run.Met as avr-run
+use Rattle.host.proofs.avr_run_schedule.Met as avr-run-schedule
 use Rattle.tracing.proofs.trace.Met as trace
 use Rattle.hex.proofs.check.check.Met as hex-check
 use Rattle.hex.proofs.read.Met as hex-read
@@ -50,11 +53,14 @@ contracts =
       run = run.met;
       tick-in = tick-in.met;
       run-in = run-in.met;
+      schedule-run = schedule-run.met;
+      schedule-run-in = schedule-run-in.met;
       write = write.met;
       read = read.met;
       avr-tick = avr-tick.met;
       avr-foretell = avr-foretell.met;
       avr-run = avr-run.met;
+      avr-run-schedule = avr-run-schedule.met;
       trace = trace.met;
       hex-check = hex-check.met;
       hex-read = hex-read.met;

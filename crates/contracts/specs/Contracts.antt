@@ -12,11 +12,14 @@ use Rattle.tick.proofs.tick_in_place.Statement as tick-in-place
 use Rattle.run.proofs.run.Statement as run
 use Rattle.run.proofs.tick_in.Statement as tick-in
 use Rattle.run.proofs.run_in.Statement as run-in
+use Rattle.schedule.proofs.run.Statement as schedule-run
+use Rattle.schedule.proofs.run_in.Statement as schedule-run-in
 use Rattle.snapshot.proofs.write.Statement as write
 use Rattle.snapshot.proofs.read.Statement as read
 use Rattle.host.proofs.avr_tick.Statement as avr-tick
 use Rattle.host.proofs.avr_foretell.Statement as avr-foretell
 use Rattle.host.proofs.avr_run.Statement as avr-run
+use Rattle.host.proofs.avr_run_schedule.Statement as avr-run-schedule
 use Rattle.tracing.proofs.trace.Statement as trace
 use Rattle.hex.proofs.check.check.Statement as hex-check
 use Rattle.hex.proofs.read.Statement as hex-read
@@ -55,6 +58,9 @@ pub record Contracts : Type 2 where
   -- crates/run/src/over.rt
   pub tick-in : {M : Type 1} → tick-in.statement M
   pub run-in : {M : Type 1} → run-in.statement M
+  -- crates/schedule/src/lib.rt
+  pub schedule-run : {M : Type 1} → schedule-run.statement M
+  pub schedule-run-in : {M : Type 1} → schedule-run-in.statement M
   -- crates/snapshot/src/lib.rt
   pub write : {M : Type 1} → write.statement M
   pub read : {M : Type 1} → read.statement M
@@ -62,6 +68,8 @@ pub record Contracts : Type 2 where
   pub avr-tick : {M : Type 1} → avr-tick.statement M
   pub avr-foretell : {M : Type 1} → avr-foretell.statement M
   pub avr-run : {M : Type 1} → avr-run.statement M
+  -- crates/host/src/schedules.rt
+  pub avr-run-schedule : {M : Type 1} → avr-run-schedule.statement M
   -- crates/tracing/src/lib.rt
   pub trace : {M : Type 1} → trace.statement M
   -- crates/hex/src/check.rt

@@ -27,6 +27,10 @@ use Rattle.hex.proofs.Once.{named-at-most-once}
 use Rattle.hex.proofs.EachByte.{each-byte}
 use Rattle.hex.proofs.Whole.{length-text}
 use Rattle.hex.proofs.Computed.{examples}
+use Rattle.schedule.proofs.Laws.{schedules-are-ticks, numbers-written, empty-list-is-a-run, same-schedule-under-larger-budget}
+use Rattle.table.proofs.Schedules.{schedule-calls-by-the-table}
+use Rattle.promises.proofs.Schedules.{schedules-leave-no-trace}
+use Rattle.promises.proofs.ScheduledStamps.{stamps-by-a-schedule}
 use Rattle.promises.specs.Claims.{Claims}
 
 pub claims : Claims
@@ -62,6 +66,13 @@ claims =
       decodes-alike = decodes-alike;
       ticks-alike = ticks-alike;
       runs-alike = runs-alike;
+      schedule-ticks = schedules-are-ticks;
+      schedule-numbers = numbers-written;
+      schedule-empty = empty-list-is-a-run;
+      schedule-larger-budget = same-schedule-under-larger-budget;
+      schedule-calls = schedule-calls-by-the-table;
+      schedule-no-trace = schedules-leave-no-trace;
+      schedule-stamps = stamps-by-a-schedule;
       hex-numbers = each-number-exactly;
       hex-given-back = given-back;
       hex-refused-read = refused-read;

@@ -10,6 +10,8 @@ pub mod TickLaws
 pub mod Interrupts
 pub mod OneHandler
 pub mod Stamps
+pub mod Schedules
+pub mod ScheduledStamps
 pub mod BenchSheet
 pub mod OneOutcome
 pub mod Demands

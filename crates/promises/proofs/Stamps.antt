@@ -26,7 +26,7 @@ use Rattle.promises.proofs.OneHandler.{same-list, endTest, Walked, PutB
 below-3 : (P : ℕ → Type 0) → P 0 → P 1 → P 2 → (x : ℕ) → x < 3 → P x
 below-3 P a b c = grow P 2 (grow P 1 (grow P 0 (λ u h. absurd (omega arith)) a) b) c
 
-begins : Begins program start 3
+pub begins : Begins program start 3
 unfolding freshOf withReg programWordOf hasWordOf decodeOf nopToAddOf cpseToAdcOf
 begins =
     record {
@@ -76,7 +76,7 @@ computed =
       careless-later = refl;
     }
 
-plain-first : First (Ended program start 3 noOffers) 3
+pub plain-first : First (Ended program start 3 noOffers) 3
 plain-first = first-of program start 3 noOffers 3 (computed .plain-ended) (computed .plain-not-yet)
 
 -- ---- the handler that puts everything back

@@ -12,11 +12,14 @@ use Rattle.snapshot.specs.Snapshot.{OldSnapshotsReadUnchanged}
 use Rattle.source.specs.Bench.{BenchOnTheRust, FreshCoresAreSound}
 use Rattle.manual.specs.Witnesses.{Agreements}
 use Rattle.table.specs.Calls.{TickCallsWriteTheNextCore, RunCallsWriteTheLastCore}
+use Rattle.table.specs.Schedules.{ScheduleCallsByTheTable}
+use Rattle.schedule.specs.Laws.{SchedulesAreTicks, NumbersWritten, EmptyListIsARun, SameScheduleUnderLargerBudget}
 use Rattle.tracing.specs.Trace.{Example, WholeTrace, CutTrace}
 use Rattle.table_decode.specs.Alike.{DecodesAlike, TicksAlike, RunsAlike}
 use Rattle.hex.specs.Answers.{EachNumberExactly}
 use Rattle.hex.specs.Promises.{WritingIsGivenBack, RefusedReadChangesNothing, RefusedWriteChangesNothing, NamedAtMostOnce, EachByteOfAFileRead, TextLength}
 use Rattle.hex.specs.Examples.{Examples}
+use Rattle.promises.specs.Schedules.{SchedulesLeaveNoTrace, StampsByASchedule}
 
 pub record Claims : Type 0 where
   -- crates/instruction/specs/Fields.antt: a decoded operand is in its field; only four instructions look at the second word
@@ -62,6 +65,16 @@ pub record Claims : Type 0 where
   pub decodes-alike : DecodesAlike
   pub ticks-alike : TicksAlike
   pub runs-alike : RunsAlike
+  -- crates/schedule/specs/Laws.antt: a run by a list equals single ticks with its offers, and each number is the tick of an entry; the output; an empty list; a larger budget
+  pub schedule-ticks : SchedulesAreTicks
+  pub schedule-numbers : NumbersWritten
+  pub schedule-empty : EmptyListIsARun
+  pub schedule-larger-budget : SameScheduleUnderLargerBudget
+  -- crates/table/specs/Schedules.antt: each of 02's numbers 30 to 32 exactly where its condition holds; refused, nothing changes
+  pub schedule-calls : ScheduleCallsByTheTable
+  -- Schedules.antt: demand 3 by a list, and the two time stamps run by one
+  pub schedule-no-trace : SchedulesLeaveNoTrace
+  pub schedule-stamps : StampsByASchedule
   -- crates/hex/specs/Answers.antt: HEX files, each of 02's numbers 50 to 57 exactly where its condition holds, and at which line
   pub hex-numbers : EachNumberExactly
   -- crates/hex/specs/Promises.antt: what the writer made is given back; refused, nothing changes; no byte is named twice; what each byte then is; how long a text is

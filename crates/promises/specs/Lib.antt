@@ -6,6 +6,7 @@ pub mod RegisterOnly
 pub mod Handlers
 pub mod Interrupts
 pub mod Stamps
+pub mod Schedules
 pub mod BenchSheet
 pub mod OneOutcome
 pub mod Machine

@@ -3,3 +3,4 @@ pub mod Needs
 pub mod Table
 pub mod Calls
 pub mod HostCalls
+pub mod Schedules

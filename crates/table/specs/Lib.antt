@@ -3,3 +3,4 @@
 pub mod Steps
 pub mod Table
 pub mod Calls
+pub mod Schedules
