@@ -1,6 +1,6 @@
 -- `serve`: with no offer until the record is due, then `wait`.
 -- Assumes nothing.
-use mathlib.Core.Path.{_≡_, refl, sym, ap, _∙_}
+use mathlib.Core.Path.{_≡_, refl, sym, ap, subst, _∙_}
 use mathlib.Core.Bool.{true, false}
 use mathlib.Core.List.{List, _∷_}
 use Prim.Native.Nat.{ℕ, suc, _+_, _≤_, _<_}
@@ -71,7 +71,10 @@ module _ (c : tie.After-run-in) where
   data-bytes = record { byte-lt = λ i. omega (arith, c .before .before .before .before .slice-known2 .given i) }
 
   ensured : RunsIn (runIn s p m Nothing u) a s' m'
-  ensured = rw (sym (c .before .until .ensures)) (c .run-in .ensures)
+  ensured =
+      let many : c .before .until .result ≡ u = c .before .until .ensures in
+      let ran : RunsIn (runIn s p m Nothing (c .before .until .result)) a s' m' = c .run-in .ensures in
+      subst (λ (n : ℕ). RunsIn (runIn s p m Nothing n) a s' m') many ran
 
   read : readOf s' .refusal ≡ 0
   read = ap (λ x. x .refusal) (ran-read u s p m s' m' a passed snapshot-bytes program-bytes data-bytes ensured)
