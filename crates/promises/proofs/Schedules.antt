@@ -96,12 +96,12 @@ module _ (p : List ℕ) (s : State) (short : ℕ) (goes : (u : ℕ) → u < shor
       elim (schedules-are-ticks short (s .core) p (s .bytes) [] refl .ends) [
         | inl z ↦ z .answer
         | inr (inl z) ↦ let u = x p s [] short .run .count in
-        let at = afterBy none (s .core) p (s .bytes) u in
-        let low = ltb-true (numberOf (tickBy none (s .core) p (s .bytes) u .answer)) 16 (sym (by-number (at .0) p (at .1) (none (suc u)) .refused) ∙ z .refused) in
-        absurd (omega (arith, low, between u (z .in-budget) .0))
+            let at = afterBy none (s .core) p (s .bytes) u in
+            let low = ltb-true (numberOf (tickBy none (s .core) p (s .bytes) u .answer)) 16 (sym (by-number (at .0) p (at .1) (none (suc u)) .refused) ∙ z .refused) in
+            absurd (omega (arith, low, between u (z .in-budget) .0))
         | inr (inr z) ↦ let at = afterBy none (s .core) p (s .bytes) (z .others) in
-        let high = leb-true 22 (numberOf (tickBy none (s .core) p (s .bytes) (z .others) .answer)) (sym (by-number (at .0) p (at .1) (none (suc (z .others))) .ends) ∙ z .stopped) in
-        absurd (omega (arith, high, between (z .others) (z .in-budget) .1))
+            let high = leb-true 22 (numberOf (tickBy none (s .core) p (s .bytes) (z .others) .answer)) (sym (by-number (at .0) p (at .1) (none (suc (z .others))) .ends) ∙ z .stopped) in
+            absurd (omega (arith, high, between (z .others) (z .in-budget) .1))
       ]
 
   plain-stands : pair (plain p s [] short short .core) (plain p s [] short short .bytes) ≡ pair (after p s noOffers short .core) (after p s noOffers short .bytes)
@@ -120,8 +120,7 @@ schedules-leave-no-trace p s l n long a =
     let offered = offers long (s .core) p (s .bytes) l in
     let count = ap (λ r. r .count) (sym run) ∙ spent p s [] short refl (plain-spent p s short (trace .plain-goes)) .count in
     let through : (f : Core → ℕ) → f (after p s (v p s l long) long .core) ≡ f (after p s noOffers short .core) → f (x p s l long .run .core) ≡ f (plain p s l long short .core) =
-    λ f z. ap f core ∙ z ∙ sym (ap f plain-core) in
-    (
+    λ f z. ap f core ∙ z ∙ sym (ap f plain-core) in (
       short,
       record {
         plain-spent = ap (λ r. r .answer) (sym run) ∙ plain-spent p s short (trace .plain-goes);
@@ -132,7 +131,7 @@ schedules-leave-no-trace p s l n long a =
         plain-wrote = ap (λ (z : Core × List ℕ). z .1) plainly ∙ trace .plain-wrote short (omega arith);
         ticks = omega (arith, spent p s l long (a .rises) (a .spent) .count, count, trace .ticks);
         entered = same-entries p s offered long ∙ ap (λ (j : ℕ). entriesBy offered (s .core) p (s .bytes) j) (sym (spent p s l long (a .rises) (a .spent) .count))
-        ∙ schedules-are-ticks long (s .core) p (s .bytes) l (a .rises) .as-many;
+            ∙ schedules-are-ticks long (s .core) p (s .bytes) l (a .rises) .as-many;
         no-trace = trace;
       },
     )
