@@ -1,5 +1,5 @@
 -- 02, W5, through the C interface: the checks 7, 8, 9, then 30, 31, 32, then the scheduled run; its count goes into `ticks`, which a call refused by a check leaves as it was.
--- s are the bytes of a snapshot, p is a program, m the bytes of data, l the bytes of a list, e the numbers lent for output.
+-- s are the bytes of a snapshot, p is a program, m the bytes of data, l the bytes of a list, e the numbers lent for output, r what the scheduled run gives.
 use mathlib.Core.List.{List}
 use Prim.Native.Nat.{ℕ}
 use lib.Dec.{eqb}

@@ -1,5 +1,5 @@
 -- Demand 3. `Lockstep`, `Handled`, `Arrival`: for any machine. `Instructions`, `Stack`, `TickLaws`: the laws of `tickOf`. `Interrupts`: the demand.
--- `OneHandler`, `Stamps`: the worked runs. Demand 1: `BenchSheet`, 01's thirteen lines; `OneOutcome`. `Demands`: all three. `Claims`: what else is claimed.
+-- `OneHandler`, `Stamps`: the worked runs. `Schedules`, `ScheduledStamps`: by a schedule. Demand 1: `BenchSheet`, 01's thirteen lines; `OneOutcome`. `Demands`: all three. `Claims`: what else is claimed.
 pub mod Logic
 pub mod Lockstep
 pub mod Handled

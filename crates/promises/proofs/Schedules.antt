@@ -2,7 +2,7 @@
 -- Assumes nothing.
 use mathlib.Core.Path.{_≡_, refl, sym, ap, _∙_}
 use mathlib.Core.Logic.{_⊎_, inl, inr}
-use mathlib.Core.Bool.{true, false}
+use mathlib.Core.Bool.{true}
 use mathlib.Core.List.{List, []}
 use Prim.Native.Nat.{ℕ, zero, suc, _+_, _≤_, _<_}
 use native.Mathlib.Omega.{arith}
@@ -12,17 +12,16 @@ use Rattle.basis.specs.Bit.{one}
 use Rattle.basis.proofs.Choice.{clash}
 use Rattle.cores.specs.declared.Core.{Core}
 use Rattle.tick.specs.declared.Offer.{Offer}
-use Rattle.tick.specs.declared.Offer.the-variants.{Nothing}
-use Rattle.tick.specs.Tick.{Tick, numberOf, refuses, stops, tickOf}
-use Rattle.run.specs.Run.{Run, runOf}
-use Rattle.schedule.specs.Schedule.{recordsOf, rising, Scheduled, scheduled, scheduleOf}
-use Rattle.schedule.specs.Laws.{afterBy, tickBy, SpentBy, entriesBy, offers, enteredIn, SingleTicks}
+use Rattle.tick.specs.Tick.{Tick, numberOf, tickOf}
+use Rattle.run.specs.Run.{Run}
+use Rattle.schedule.specs.Schedule.{recordsOf, rising}
+use Rattle.schedule.specs.Laws.{afterBy, tickBy, SpentBy, entriesBy, offers}
 use Rattle.schedule.specs.Laws as laws
 use Rattle.schedule.proofs.Steps.{by-number}
 use Rattle.schedule.proofs.Laws.{schedules-are-ticks, empty-list-is-a-run}
 use Rattle.promises.specs.Handlers.{iterated}
-use Rattle.promises.specs.Interrupts.{State, Offers, noOffers, tickAt, after, numberAt, enters, NoTrace}
-use Rattle.promises.specs.Schedules.{handlers, x, v, plain, AssumedOf, EndsAlike, SchedulesLeaveNoTrace}
+use Rattle.promises.specs.Interrupts.{State, Offers, noOffers, tickAt, after, numberAt, enters}
+use Rattle.promises.specs.Schedules.{handlers, x, v, plain, SchedulesLeaveNoTrace}
 use Rattle.promises.proofs.Interrupts.{no-trace-at-the-end}
 
 -- core and data, as a pair

@@ -1,6 +1,6 @@
 -- The checks of a list, where they are passed and where they are not.
 -- Assumes nothing.
-use mathlib.Core.Path.{_≡_, refl, sym, ap, _∙_}
+use mathlib.Core.Path.{_≡_, refl}
 use mathlib.Core.Bool.{Bool, true, false}
 use mathlib.Core.List.{List}
 use Prim.Native.Nat.{ℕ, _/_, _%_, _≤_}
@@ -9,7 +9,6 @@ use lib.Dec.{eqb, ltb}
 use lib.ListN.{length}
 use borrow.Author.Tests.{ltb-false}
 use Rattle.basis.specs.Pick.{pick}
-use Rattle.basis.proofs.Choice.{clash}
 use Rattle.schedule.specs.Schedule.{recordsOf, rising, refusalOf}
 
 -- the three tests: whole records, rising, too little room

@@ -17,7 +17,7 @@ use Rattle.run.specs.Over.{saidBy, runIn, RunsIn}
 use Rattle.run.specs.declared.over.Over.{Over}
 use Rattle.schedule.specs.Schedule.{Record, recordAt, recordsFrom, recordsOf, rising, Scheduled, stopped, scheduled, numbersOf}
 use Rattle.schedule.specs.Follow.{restFrom, saidRun, Serves, Follows}
-use Rattle.schedule.proofs.Serving.{run-ends, answered, counted, ran-read, goes-on, ends-there}
+use Rattle.schedule.proofs.Serving.{Quiet, ran-read, few, all-done, goes-on, ends-there}
 
 -- the numbers of the records entered before stand in front
 abbrev pub behind : List ℕ → Scheduled → Scheduled
@@ -73,7 +73,7 @@ both true y h = h
 both false y h = clash (sym h)
 
 -- ---- a record more
-module _ (s₀ p m₀ l : List ℕ) (b : ℕ) (k s m e : List ℕ) (i done : ℕ) (z : Stands s₀ p m₀ l b k s m e i done) (more : i < length l / 5) where
+module _ {s₀ p m₀ l : List ℕ} {b : ℕ} {k s m e : List ℕ} {i done : ℕ} (z : Stands s₀ p m₀ l b k s m e i done) (more : i < length l / 5) where
   abbrev d : Record
   d = recordAt l i
 
@@ -120,55 +120,70 @@ module _ (s₀ p m₀ l : List ℕ) (b : ℕ) (k s m e : List ℕ) (i done : ℕ
     pub follows-ended : (e₀ : List ℕ) → k ≡ drop (length l / 5) e₀ → (x : Over) → (a .answer ≡ 17 → ⊥) → x .answer ≡ a .answer → x .ticks ≡ a .ticks → Follows s₀ p m₀ l b e₀ x s' m' e
     follows-ended e₀ kept x f g h =
         let ns = z .before in
-        let all : restFrom b done s p m (d ∷ ds) ≡ stopped (saidRun a s' m') (d ∷ ds) = w .rest ds rises-on ∙ rw (ne-eqb (a .answer) 17 f) in
-        let is = served ∙ ap (behind ns) all in
-        let run : saidRun x s' m' ≡ saidRun a s' m' = cc (g, h) in
         let rest : List ℕ = replicate (length l / 5 - suc i) 0 in
-        let count : length (recordsFrom l (suc i) (length l / 5 - suc i)) ≡ length l / 5 - suc i = many-records l (suc i) (length l / 5 - suc i) in
+        let over : restFrom b done s p m (d ∷ ds) ≡ stopped (saidRun a s' m') (d ∷ ds) = w .rest ds rises-on ∙ rw (ne-eqb (a .answer) 17 f) in
+        let whole : scheduled b 0 (saidBy s₀) p m₀ (recordsOf l) ≡ behind ns (stopped (saidRun a s' m') (d ∷ ds)) = served ∙ ap (behind ns) over in
+        let run : saidRun x s' m' ≡ saidRun a s' m' = cc (g, h) in
+        let entries : scheduled b 0 (saidBy s₀) p m₀ (recordsOf l) .entries ≡ ns ++ (0 ∷ rest) =
+        ap (λ y. y .entries) whole ∙ ap (λ (n : ℕ). let none : List ℕ = replicate n 0 in ns ++ (0 ∷ none)) (many-records l (suc i) (length l / 5 - suc i)) in
         let long : length (ns ++ (0 ∷ rest)) ≡ length l / 5 = rw (length-append, length-replicate) (omega (arith, z .many)) in
+        let numbers : numbersOf (scheduled b 0 (saidBy s₀) p m₀ (recordsOf l) .entries) e₀ ≡ (ns ++ (0 ∷ rest)) ++ drop (length l / 5) e₀ =
+        ap (λ (y : List ℕ). numbersOf y e₀) entries ∙ ap (λ (n : ℕ). (ns ++ (0 ∷ rest)) ++ drop n e₀) long in
         record {
           read = w .read;
-          run = run ∙ sym (ap (λ y. y .run) is);
-          numbers = zeros ∙ sym (joined ns (0 ∷ rest) k) ∙ ap (λ (x : List ℕ). (ns ++ (0 ∷ rest)) ++ x) kept ∙ ap (λ (n : ℕ). (ns ++ (0 ∷ rest)) ++ drop n e₀) (sym long)
-              ∙ sym (ap (λ y. numbersOf (y .entries) e₀) is ∙ ap (λ (n : ℕ). let zeros : List ℕ = replicate n 0 in numbersOf (ns ++ (0 ∷ zeros)) e₀) count);
+          run = run ∙ sym (ap (λ y. y .run) whole);
+          numbers = zeros ∙ sym (joined ns (0 ∷ rest) k) ∙ ap (λ (y : List ℕ). (ns ++ (0 ∷ rest)) ++ y) kept ∙ sym numbers;
         }
 
--- ---- no record is left
-module _ (s₀ p m₀ l : List ℕ) (b : ℕ) (k s m e s' m' : List ℕ) (i done : ℕ) (z : Stands s₀ p m₀ l b k s m e i done) (end : length l / 5 ≤ i) (bp : Bytes p)
-    (a : Over) (w : RunsIn (runIn s p m Nothing (b - done)) a s' m') where
+-- ---- no record is left, and what is left of the budget is run with no offer
+module _ {s₀ p m₀ l : List ℕ} {b : ℕ} {k s m e : List ℕ} {i done : ℕ} (z : Stands s₀ p m₀ l b k s m e i done) (end : length l / 5 ≤ i) (bp : Bytes p)
+    (a : Over) (s' m' : List ℕ) (w : RunsIn (runIn s p m Nothing (b - done)) a s' m') where
+  abbrev quiet : Quiet
+  quiet =
+      record {
+        u = b - done;
+        s = s;
+        p = p;
+        m = m;
+        s' = s';
+        m' = m';
+        a = a;
+        read = z .read;
+        snapshot-bytes = z .snapshot-bytes;
+        program-bytes = bp;
+        data-bytes = z .data-bytes;
+        runs = w;
+      }
+
   fits : done + (b - done) ≤ b
   fits = omega (arith, z .low)
 
   pub count-fits : done + a .ticks ≤ b
-  count-fits = omega (arith, z .low, counted (b - done) s p m s' m' a (z .read) (z .snapshot-bytes) bp (z .data-bytes) w, run-ends (b - done) (saidBy s) p m .few)
-
-  pub last-read : readOf s' .refusal ≡ 0
-  last-read = ap (λ x. x .refusal) (ran-read (b - done) s p m s' m' a (z .read) (z .snapshot-bytes) bp (z .data-bytes) w)
+  count-fits = omega (arith, z .low, few quiet)
 
   module _ (x : Over) (g : x .answer ≡ a .answer) (h : x .ticks ≡ done + a .ticks) where
     spent : a .answer ≡ 24 → restFrom b done s p m [] ≡ stopped (saidRun x s' m') []
     unfolding scheduled
     spent f =
-        let whole = run-ends (b - done) (saidBy s) p m .whole (sym (answered (b - done) s p m s' m' a (z .read) (z .snapshot-bytes) bp (z .data-bytes) w) ∙ f) in
-        let count = counted (b - done) s p m s' m' a (z .read) (z .snapshot-bytes) bp (z .data-bytes) w in
-        let none : b - (done + a .ticks) ≡ 0 = omega (arith, count, whole) in
-        goes-on (b - done) s p m s' m' a (z .read) (z .snapshot-bytes) bp (z .data-bytes) w b done [] fits (λ _ _ _. refl) f ∙ rw (none, g, f, h)
-
-    ended : (a .answer ≡ 24 → ⊥) → restFrom b done s p m [] ≡ stopped (saidRun x s' m') []
-    ended f = ends-there (b - done) s p m s' m' a (z .read) (z .snapshot-bytes) bp (z .data-bytes) w b done [] fits (λ _ _ _. refl) x f g h
+        let none : b - (done + a .ticks) ≡ 0 = omega (arith, all-done quiet f) in
+        goes-on quiet b done [] fits (λ _ _ _. refl) f ∙ rw (none, g, f, h)
 
     rest : restFrom b done s p m [] ≡ stopped (saidRun x s' m') []
-    rest = test (eqb (a .answer) 24) (λ f. spent (eqb-true (a .answer) 24 f)) (λ f. ended (eqb-false (a .answer) 24 f))
+    rest =
+        test (eqb (a .answer) 24) (λ f. spent (eqb-true (a .answer) 24 f))
+        λ f. ends-there quiet b done [] fits (λ _ _ _. refl) x (eqb-false (a .answer) 24 f) g h
 
     pub follows-last : (e₀ : List ℕ) → k ≡ drop (length l / 5) e₀ → Follows s₀ p m₀ l b e₀ x s' m' e
     follows-last e₀ kept =
         let ns = z .before in
         let none : length l / 5 - i ≡ 0 = omega arith in
+        let whole : scheduled b 0 (saidBy s₀) p m₀ (recordsOf l) ≡ behind ns (stopped (saidRun x s' m') []) =
+        z .rest ∙ ap (λ (n : ℕ). behind ns (restFrom b done s p m (recordsFrom l i n))) none ∙ ap (behind ns) rest in
         let long : length (ns ++ []) ≡ length l / 5 = rw length-append (omega (arith, z .many, z .few, end)) in
-        let is = z .rest ∙ ap (λ (n : ℕ). behind ns (restFrom b done s p m (recordsFrom l i n))) none ∙ ap (behind ns) rest in
+        let numbers : numbersOf (scheduled b 0 (saidBy s₀) p m₀ (recordsOf l) .entries) e₀ ≡ (ns ++ []) ++ drop (length l / 5) e₀ =
+        ap (λ y. numbersOf (y .entries) e₀) whole ∙ ap (λ (n : ℕ). (ns ++ []) ++ drop n e₀) long in
         record {
-          read = last-read;
-          run = sym (ap (λ y. y .run) is);
-          numbers = z .numbers ∙ ap (λ (n : ℕ). ns ++ (replicate n 0 ++ k)) none ∙ sym (joined ns [] k) ∙ ap (λ (x : List ℕ). (ns ++ []) ++ x) kept
-              ∙ ap (λ (n : ℕ). (ns ++ []) ++ drop n e₀) (sym long) ∙ sym (ap (λ y. numbersOf (y .entries) e₀) is);
+          read = ap (λ y. y .refusal) (ran-read quiet);
+          run = sym (ap (λ y. y .run) whole);
+          numbers = z .numbers ∙ ap (λ (n : ℕ). ns ++ (replicate n 0 ++ k)) none ∙ sym (joined ns [] k) ∙ ap (λ (y : List ℕ). (ns ++ []) ++ y) kept ∙ sym numbers;
         }

@@ -10,7 +10,6 @@ use native.Mathlib.Omega.{arith}
 use lib.Dec.{eqb, leb, ltb}
 use lib.ListN.{getD, drop, length, replicate}
 use borrow.Author.Tests.{lt-ltb, le-ltb, leb-true, leb-false, ne-eqb}
-use Rattle.basis.specs.Pick.{pick}
 use Rattle.basis.specs.Bit.{one}
 use Rattle.basis.proofs.Choice.{clash, test}
 use Rattle.cores.specs.declared.Core.{Core}
@@ -23,7 +22,7 @@ use Rattle.tick.proofs.Steps.{refused-keeps}
 use Rattle.run.specs.Run.{Run}
 use Rattle.schedule.specs.Schedule.{Record, rising, offered, Scheduled, scheduled}
 use Rattle.schedule.specs.Laws.{afterBy, tickBy, entriesBy, offeredAt, enteredIn}
-use Rattle.schedule.proofs.Steps.{ByNumber, by-number, stepBy, one-tick, above, not-due}
+use Rattle.schedule.proofs.Steps.{ByNumber, by-number, stepBy, above, not-due}
 
 -- ---- the numbers of a run from its tick j on are 0 or above j
 abbrev Later : ℕ → List ℕ → Type 0

@@ -3,24 +3,24 @@
 use mathlib.Core.Path.{_≡_, refl, sym, ap, subst, _∙_}
 use mathlib.Core.Logic.{_⊎_, inl, inr}
 use mathlib.Core.Bool.{Bool, true, false}
-use mathlib.Core.List.{List, [], _∷_, _++_}
+use mathlib.Core.List.{List, [], _∷_}
 use Prim.Native.Nat.{ℕ, zero, suc, _+_, _-_, _/_, _≤_, _<_}
 use native.Mathlib.Nat.{add-zero, zero-add, not-suc-le-zero, le-of-suc-le-suc}
 use native.Mathlib.Omega.{arith}
-use lib.Dec.{eqb, ltb}
+use lib.Dec.{eqb}
 use lib.ListN.{getD, drop, length, replicate, length-append, length-replicate, length-drop, List·getD-append}
 use lib.Seq.{getD-append-add, getD-drop}
 use borrow.Author.Tests.{le-ltb, eq-eqb, eqb-true}
 use Rattle.basis.specs.Pick.{pick}
-use Rattle.basis.proofs.Choice.{clash, test, cases}
+use Rattle.basis.proofs.Choice.{cases}
 use Rattle.cores.specs.declared.Core.{Core}
 use Rattle.tick.specs.Tick.{Tick, numberOf, refuses, stops, tickOf}
 use Rattle.tick.specs.declared.Offer.{Offer}
 use Rattle.tick.specs.declared.Offer.the-variants.{Vector, Nothing}
-use Rattle.run.specs.Run.{Run, after, runOf}
-use Rattle.schedule.specs.Schedule.{Record, recordAt, recordsFrom, recordsOf, rising, refusalOf, offered, Scheduled, stopped, noted, scheduled, numbersOf, Schedule, scheduleOf}
-use Rattle.schedule.specs.Laws.{afterBy, offers, x, EntryAt, SingleTicks, SchedulesAreTicks, NumbersWritten, EmptyListIsARun, SameScheduleUnderLargerBudget}
-use Rattle.schedule.proofs.Steps.{stepBy, one-tick, quiet}
+use Rattle.run.specs.Run.{after, runOf}
+use Rattle.schedule.specs.Schedule.{Record, recordAt, recordsFrom, recordsOf, rising, refusalOf, offered, Scheduled, stopped, noted, scheduled, numbersOf, Schedule}
+use Rattle.schedule.specs.Laws.{afterBy, offers, x, SingleTicks, SchedulesAreTicks, NumbersWritten, EmptyListIsARun, SameScheduleUnderLargerBudget}
+use Rattle.schedule.proofs.Steps.{stepBy, quiet}
 use Rattle.schedule.proofs.Following.{many-records}
 use Rattle.schedule.proofs.Checks.{passed-rises, passed-room}
 use Rattle.schedule.proofs.Known.{Entry, Marked, Known, known}

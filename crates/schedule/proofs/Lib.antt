@@ -1,4 +1,5 @@
--- `Steps`: one tick of a scheduled run, and many with no offer. `Waiting`: a tick while a record waits. `Serving`: with no offer until a record is due.
+-- `Steps`: one tick of a scheduled run, and many with no offer. Over a snapshot: `Waiting`, a tick while a record waits; `Serving`, no offer until one is due; `Following`, record by record.
+-- `Checks`: those of a list. `Whole`: the calls. `Known`: a scheduled run is single ticks, from any of its ticks on. `Laws`: what is stated of it.
 pub mod Steps
 pub mod Waiting
 pub mod Serving

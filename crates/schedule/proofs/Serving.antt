@@ -23,21 +23,21 @@ use Rattle.run.proofs.Turns.{said-sound}
 use Rattle.run.proofs.Through.{run-sound}
 use Rattle.run.proofs.Calls.{run-in-passed}
 use Rattle.schedule.specs.Schedule.{Record, rising, offered, stopped, scheduled}
-use Rattle.schedule.specs.Follow.{restFrom, saidRun, untilOf, servedBy}
+use Rattle.schedule.specs.Follow.{restFrom, saidRun, untilOf}
 use Rattle.schedule.proofs.Steps.{ByNumber, by-number, not-due, quiet}
 
 -- ---- how a run with no offer ends: its count is at most its budget, and is it where the answer is 24; it never answers 17
-pub record Ends (b : ℕ) (r : Run) : Type 0 where
-  pub few : r .count ≤ b
-  pub whole : r .answer ≡ 24 → r .count ≡ b
-  pub apart : eqb (r .answer) 17 ≡ false
+record Ends (b : ℕ) (r : Run) : Type 0 where
+  few : r .count ≤ b
+  whole : r .answer ≡ 24 → r .count ≡ b
+  apart : eqb (r .answer) 17 ≡ false
 
 ends-step : (refused ends : Bool) (t : Tick) (b : ℕ) (r : Run) → ByNumber Nothing t → Ends b r → Ends (suc b) (step refused ends t r)
 ends-step true ends t b r n e = record { few = omega arith; whole = λ z. clash (sym (eq-eqb _ 24 z) ∙ n .unspent); apart = n .unoffered refl }
 ends-step false true t b r n e = record { few = omega arith; whole = λ z. clash (sym (eq-eqb _ 24 z) ∙ n .unspent); apart = n .unoffered refl }
 ends-step false false t b r n e = record { few = omega (arith, e .few); whole = λ z. omega (arith, e .whole z); apart = e .apart }
 
-pub run-ends : (b : ℕ) (k : Core) (p m : List ℕ) → Ends b (runOf b k p m Nothing)
+run-ends : (b : ℕ) (k : Core) (p m : List ℕ) → Ends b (runOf b k p m Nothing)
 unfolding ran
 run-ends zero k p m = record { few = omega arith; whole = λ _. refl; apart = refl }
 run-ends (suc b) k p m =
@@ -45,26 +45,53 @@ run-ends (suc b) k p m =
     ends-step (refuses (t .answer)) (stops (t .answer)) t b (runOf b (t .core) p (t .bytes) Nothing) (by-number k p m Nothing) (run-ends b (t .core) p (t .bytes))
 
 -- ---- over a snapshot: u ticks with no offer from s to s' and from m to m', where the checks are passed
-module _ (u : ℕ) (s p m s' m' : List ℕ) (a : Over) (h : readOf s .refusal ≡ 0) (bs : Bytes s) (bp : Bytes p) (bm : Bytes m) (w : RunsIn (runIn s p m Nothing u) a s' m') where
+pub record Quiet : Type 0 where
+  pub u : ℕ
+  pub s : List ℕ
+  pub p : List ℕ
+  pub m : List ℕ
+  pub s' : List ℕ
+  pub m' : List ℕ
+  pub a : Over
+  pub read : readOf s .refusal ≡ 0
+  pub snapshot-bytes : Bytes s
+  pub program-bytes : Bytes p
+  pub data-bytes : Bytes m
+  pub runs : RunsIn (runIn s p m Nothing u) a s' m'
+
+module _ (Q : Quiet) where
+  open Quiet Q using (u, s, p, m, s', m', a, read, snapshot-bytes, program-bytes, data-bytes, runs)
+
   abbrev r : Run
   r = runOf u (saidBy s) p m Nothing
 
   is : runIn s p m Nothing u ≡ record { answer = r .answer; count = r .count; snapshot = writeOf (r .core) s .bytes; bytes = r .bytes }
-  is = run-in-passed s p m Nothing u (eq-eqb (readOf s .refusal) 0 h)
+  is = run-in-passed s p m Nothing u (eq-eqb (readOf s .refusal) 0 read)
 
-  pub answered : a .answer ≡ r .answer
-  answered = w .answer ∙ ap (λ x. x .answer) is
+  answered : a .answer ≡ r .answer
+  answered = runs .answer ∙ ap (λ x. x .answer) is
 
-  pub counted : a .ticks ≡ r .count
-  counted = w .count ∙ ap (λ x. x .count) is
+  counted : a .ticks ≡ r .count
+  counted = runs .count ∙ ap (λ x. x .count) is
 
   left : m' ≡ r .bytes
-  left = w .bytes ∙ ap (λ x. x .bytes) is
+  left = runs .bytes ∙ ap (λ x. x .bytes) is
 
   pub ran-read : readOf s' ≡ record { refusal = 0; core = r .core }
   ran-read =
-      ap readOf (w .snapshot ∙ ap (λ x. x .snapshot) is)
-      ∙ reading-undoes-writing (r .core) s (run-sound u (saidBy s) p m Nothing (said-sound s bs h) bp bm tt) (long s h)
+      ap readOf (runs .snapshot ∙ ap (λ x. x .snapshot) is)
+      ∙ reading-undoes-writing (r .core) s (run-sound u (saidBy s) p m Nothing (said-sound s snapshot-bytes read) program-bytes data-bytes tt) (long s read)
+
+  pub few : a .ticks ≤ u
+  few = omega (arith, counted, run-ends u (saidBy s) p m .few)
+
+  -- 24 says that all were done
+  pub all-done : a .answer ≡ 24 → a .ticks ≡ u
+  all-done e = counted ∙ run-ends u (saidBy s) p m .whole (sym answered ∙ e)
+
+  -- and 17 is not said
+  pub apart : eqb (a .answer) 17 ≡ false
+  apart = rw answered (run-ends u (saidBy s) p m .apart)
 
   core : saidBy s' ≡ r .core
   core = ap (λ x. x .core) ran-read
@@ -78,9 +105,9 @@ module _ (u : ℕ) (s p m s' m' : List ℕ) (a : Over) (h : readOf s .refusal �
     pub goes-on : a .answer ≡ 24 → restFrom b done s p m ds ≡ restFrom b (done + a .ticks) s' p m' ds
     goes-on e =
         let spent : r .answer ≡ 24 = sym answered ∙ e in
-        let count : r .count ≡ u = run-ends u (saidBy s) p m .whole spent in
+        let count : r .count ≡ u = sym counted ∙ all-done e in
         let more : b - (done + u) ≡ b - done - u = omega arith in
-        let here : done + a .ticks ≡ done + u = omega (arith, counted, count) in
+        let here : done + a .ticks ≡ done + u = omega (arith, all-done e) in
         begun ∙ quiet u (b - done - u) done (saidBy s) p m ds none ∙ rw (eq-eqb (r .answer) 24 spent, count)
         (sym (ap (λ (z : ℕ). restFrom b z s' p m' ds) here ∙ ap (λ (z : ℕ). scheduled z (done + u) (saidBy s') p m' ds) more
         ∙ ap (λ (z : Core). scheduled (b - done - u) (done + u) z p m' ds) core ∙ ap (λ (z : List ℕ). scheduled (b - done - u) (done + u) (r .core) p z ds) left))

@@ -1,7 +1,6 @@
 -- A scheduled run by its ticks: one, and many with no offer.
 -- Assumes nothing.
 use mathlib.Core.Path.{_≡_, refl, sym, ap, _∙_}
-use mathlib.Core.Logic.{inl, inr}
 use mathlib.Core.Bool.{Bool, true, false, _&&_}
 use mathlib.Core.List.{List, [], _∷_}
 use Prim.Native.Nat.{ℕ, zero, suc, _+_, _≤_, _<_}
@@ -9,7 +8,7 @@ use native.Mathlib.Nat.{add-zero, zero-add}
 use native.Mathlib.Omega.{arith}
 use lib.Dec.{eqb, leb, ltb}
 use lib.ListN.{drop}
-use borrow.Author.Tests.{ltb-true, lt-ltb, le-ltb, le-leb, lt-leb, ne-eqb, eq-eqb}
+use borrow.Author.Tests.{ltb-true, lt-ltb, lt-leb, ne-eqb}
 use Rattle.basis.specs.Pick.{pick}
 use Rattle.basis.proofs.Choice.{clash}
 use Rattle.cores.specs.declared.Core.{Core}
@@ -18,11 +17,11 @@ use Rattle.execute.specs.declared.Done.{Done}
 use Rattle.execute.specs.declared.Done.the-variants as done
 use Rattle.tick.specs.Tick.{Tick, numberOf, refuses, stops, answerOf, due, tickOf}
 use Rattle.tick.specs.declared.Offer.{Offer}
-use Rattle.tick.specs.declared.Offer.the-variants.{Vector, Nothing}
+use Rattle.tick.specs.declared.Offer.the-variants.{Nothing}
 use Rattle.tick.proofs.Steps.{every-tick, every-due, performed}
-use Rattle.invariants.proofs.Ticks.{ticks-answer-tick-numbers}
 use Rattle.run.specs.Run.{Run, ended, after, ran, runOf}
-use Rattle.run.proofs.Unroll.{step, once}
+use Rattle.run.specs.Lent.{offers}
+use Rattle.run.proofs.Unroll.{step}
 use Rattle.schedule.specs.Schedule.{Record, rising, offered, Scheduled, stopped, noted, scheduled}
 
 -- ---- a tick's answer by its number
@@ -39,19 +38,15 @@ done-number o done.Watchdog k m = record { refused = refl; ends = refl; unoffere
 done-number o done.Undefined k m = record { refused = refl; ends = refl; unoffered = λ _. refl; unspent = refl }
 done-number o done.Break k m = record { refused = refl; ends = refl; unoffered = λ _. refl; unspent = refl }
 
-abbrev isVector : Offer → Bool
-isVector (Vector v) = true
-isVector Nothing = false
-
-none-due : (k : Core) (o : Offer) → o ≡ Nothing → isVector (due k o) ≡ false
-none-due k o e = every-due (λ x. isVector x ≡ false) k o refl (λ _ _. ap isVector e)
+none-due : (k : Core) (o : Offer) → o ≡ Nothing → offers (due k o) ≡ false
+none-due k o e = every-due (λ x. offers x ≡ false) k o refl (λ _ _. ap offers e)
 
 pub by-number : (k : Core) (p m : List ℕ) (o : Offer) → ByNumber o (tickOf k p m o)
 by-number k p m o =
     every-tick decodeOf (ByNumber o) k p m o
     (λ n g l. record { refused = sym (lt-ltb n 16 (omega arith)); ends = sym (lt-leb 22 n (omega arith)); unoffered = λ _. ne-eqb n 17 (λ e. omega (arith, e)); unspent = ne-eqb n 24 (λ e. omega (arith, e)) })
     (λ g l. record { refused = refl; ends = refl; unoffered = λ _. refl; unspent = refl })
-    (λ z v d l. record { refused = refl; ends = refl; unoffered = λ e. clash (ap isVector (sym d) ∙ none-due k o e); unspent = refl })
+    (λ z v d l. record { refused = refl; ends = refl; unoffered = λ e. clash (ap offers (sym d) ∙ none-due k o e); unspent = refl })
     (λ z d l. record { refused = refl; ends = refl; unoffered = λ _. refl; unspent = refl })
     λ z d l r. let x = performed decodeOf k p m in done-number o (x .done) (x .core) (x .bytes)
 
@@ -107,11 +102,11 @@ not-due tick last (d ∷ ds) h r =
 abbrev pub quietly : ℕ → ℕ → Run → List ℕ → List Record → Scheduled
 quietly left count r p ds = pick (eqb (r .answer) 24) (scheduled left (count + r .count) (r .core) p (r .bytes) ds) (stopped (after count r) ds)
 
-one-quiet : (r s : Bool) (n left count : ℕ) (t : Tick) (p : List ℕ) (ds : List Record) (x : Run) (e y : Scheduled)
+one-quiet : (r s : Bool) (left count : ℕ) (t : Tick) (p : List ℕ) (ds : List Record) (x : Run) (e y : Scheduled)
     → eqb (numberOf (t .answer)) 24 ≡ false → y ≡ quietly left (suc count) x p ds → stepBy r s false count t ds e y ≡ quietly left count (step r s t x) p ds
-one-quiet true s n left count t p ds x e y u h = rw (u, add-zero)
-one-quiet false true n left count t p ds x e y u h = let one : count + 1 ≡ suc count = omega arith in rw (u, one)
-one-quiet false false n left count t p ds x e y u h = let more : count + (1 + x .count) ≡ suc count + x .count = omega arith in rw more h
+one-quiet true s left count t p ds x e y u h = rw (u, add-zero)
+one-quiet false true left count t p ds x e y u h = let one : count + 1 ≡ suc count = omega arith in rw (u, one)
+one-quiet false false left count t p ds x e y u h = let more : count + (1 + x .count) ≡ suc count + x .count = omega arith in rw more h
 
 pub quiet : (n left count : ℕ) (k : Core) (p m : List ℕ) (ds : List Record) → ((tick : ℕ) → count < tick → tick ≤ count + n → offered tick ds ≡ Nothing)
     → scheduled (n + left) count k p m ds ≡ quietly left count (runOf n k p m Nothing) p ds
@@ -126,6 +121,6 @@ quiet (suc n) left count k p m ds h =
     ap (λ (z : ℕ). scheduled z count k p m ds) more ∙ one-tick (n + left) count k p m ds
     ∙ ap (λ (z : Tick). stepBy (refuses (z .answer)) (stops (z .answer)) (eqb (numberOf (z .answer)) 17) count z ds (scheduled (n + left) (suc count) (z .core) p (z .bytes) (drop 1 ds)) (scheduled (n + left) (suc count) (z .core) p (z .bytes) ds)) same
     ∙ ap (λ e. stepBy (refuses (t .answer)) (stops (t .answer)) e count t ds (scheduled (n + left) (suc count) (t .core) p (t .bytes) (drop 1 ds)) (scheduled (n + left) (suc count) (t .core) p (t .bytes) ds)) (b .unoffered refl)
-    ∙ one-quiet (refuses (t .answer)) (stops (t .answer)) n left count t p ds (runOf n (t .core) p (t .bytes) Nothing)
+    ∙ one-quiet (refuses (t .answer)) (stops (t .answer)) left count t p ds (runOf n (t .core) p (t .bytes) Nothing)
     (scheduled (n + left) (suc count) (t .core) p (t .bytes) (drop 1 ds)) (scheduled (n + left) (suc count) (t .core) p (t .bytes) ds) (b .unspent)
     (quiet n left (suc count) (t .core) p (t .bytes) ds (λ tick f g. h tick (omega (arith, f)) (omega (arith, g))))

@@ -1,14 +1,14 @@
 -- One tick over a snapshot while a record waits to be entered.
 -- Assumes nothing.
-use mathlib.Core.Path.{_≡_, refl, sym, ap, _∙_}
-use mathlib.Core.Bool.{true, false}
+use mathlib.Core.Path.{_≡_, sym, ap, _∙_}
+use mathlib.Core.Bool.{true}
 use mathlib.Core.List.{List, _∷_}
 use Prim.Native.Nat.{ℕ, suc, _+_, _-_, _≤_, _<_}
 use native.Mathlib.Omega.{arith}
 use lib.Dec.{eqb, leb, ltb}
+use lib.ListN.{length}
 use borrow.Author.Tests.{lt-ltb, le-ltb, le-leb, lt-leb, ne-eqb, eq-eqb}
 use Rattle.basis.specs.Bytes.{Bytes}
-use Rattle.cores.specs.declared.Core.{Core}
 use Rattle.tick.specs.Tick.{Tick, numberOf, tickOf}
 use Rattle.tick.specs.declared.Offer.the-variants.{Vector}
 use Rattle.snapshot.specs.Snapshot.{readOf}
@@ -16,13 +16,48 @@ use Rattle.run.specs.Run.{ended}
 use Rattle.run.specs.Over.{saidBy, tickOver, tickIn, TicksIn}
 use Rattle.run.specs.declared.over.Over.{Over}
 use Rattle.run.proofs.Turns.{next-read}
-use Rattle.schedule.specs.Schedule.{Record, offered, Scheduled, stopped, noted, scheduled}
+use Rattle.schedule.specs.Schedule.{Record, offered, Scheduled, stopped, scheduled}
 use Rattle.schedule.specs.Follow.{restFrom, saidRun, servedBy}
 use Rattle.schedule.proofs.Steps.{stepBy, tick-by}
 
--- with `done` of b ticks done, from the snapshot s to s' and from the data m to m', where the checks are passed
-module _ (b done vector : ℕ) (s p m s' m' : List ℕ) (n : ℕ) (h : readOf s .refusal ≡ 0) (bs : Bytes s) (bp : Bytes p) (bm : Bytes m) (f : vector < 65536)
-    (w : TicksIn (tickIn s p m (Vector vector)) n s' m') where
+-- the record that waits
+abbrev pub waiting : ℕ → ℕ → Record
+waiting tick vector = record { tick = tick; vector = vector }
+
+-- where `wait` stands: the rest of the run from here is the rest from where it began
+pub record Stands (s₀ p m₀ : List ℕ) (vector done₀ b : ℕ) (s m : List ℕ) (done : ℕ) : Type 0 where
+  pub onward : done₀ ≤ done
+  pub low : done ≤ b
+  pub same-snapshot : length s ≡ length s₀
+  pub same-data : length m ≡ length m₀
+  pub read : readOf s .refusal ≡ 0
+  pub snapshot-bytes : Bytes s
+  pub data-bytes : Bytes m
+  pub rest : (tick : ℕ) (ds : List Record) → (done₀ < b → tick ≤ suc done₀)
+      → restFrom b done₀ s₀ p m₀ (waiting tick vector ∷ ds) ≡ restFrom b done s p m (waiting tick vector ∷ ds)
+
+-- a tick with the vector offered, from the snapshot s to s' and from the data m to m', with `done` of b ticks done
+pub record Turn : Type 0 where
+  pub b : ℕ
+  pub done : ℕ
+  pub vector : ℕ
+  pub s : List ℕ
+  pub p : List ℕ
+  pub m : List ℕ
+  pub s' : List ℕ
+  pub m' : List ℕ
+  pub n : ℕ
+  pub near : done < b
+  pub read : readOf s .refusal ≡ 0
+  pub snapshot-bytes : Bytes s
+  pub program-bytes : Bytes p
+  pub data-bytes : Bytes m
+  pub word : vector < 65536
+  pub ticks : TicksIn (tickIn s p m (Vector vector)) n s' m'
+
+module _ (T : Turn) where
+  open Turn T using (b, done, vector, s, p, m, s', m', n, near, read, snapshot-bytes, program-bytes, data-bytes, word, ticks)
+
   abbrev t : Tick
   t = tickOver s p m (Vector vector)
 
@@ -30,20 +65,20 @@ module _ (b done vector : ℕ) (s p m s' m' : List ℕ) (n : ℕ) (h : readOf s 
   number = numberOf (t .answer)
 
   passes : eqb (readOf s .refusal) 0 ≡ true
-  passes = eq-eqb (readOf s .refusal) 0 h
+  passes = eq-eqb (readOf s .refusal) 0 read
 
   numbered : n ≡ number
-  numbered = w .number ∙ rw passes
+  numbered = ticks .number ∙ rw passes
 
   left : m' ≡ t .bytes
-  left = w .bytes ∙ rw passes
+  left = ticks .bytes ∙ rw passes
 
-  pub read : readOf s' ≡ record { refusal = 0; core = t .core }
-  read = next-read s p m (Vector vector) h bs bp bm f (w .snapshot ∙ rw passes)
+  pub next-said : readOf s' ≡ record { refusal = 0; core = t .core }
+  next-said = next-read s p m (Vector vector) read snapshot-bytes program-bytes data-bytes word (ticks .snapshot ∙ rw passes)
 
-  module _ (tick : ℕ) (ds : List Record) (due : tick ≤ suc done) (g : done < b) where
+  module _ (tick : ℕ) (ds : List Record) (due : tick ≤ suc done) where
     abbrev d : Record
-    d = record { tick = tick; vector = vector }
+    d = waiting tick vector
 
     abbrev entering : Scheduled
     entering = restFrom b (suc done) s' p m' ds
@@ -52,7 +87,7 @@ module _ (b done vector : ℕ) (s p m s' m' : List ℕ) (n : ℕ) (h : readOf s 
     onward = restFrom b (suc done) s' p m' (d ∷ ds)
 
     said : (x : List Record) → restFrom b (suc done) s' p m' x ≡ scheduled (b - suc done) (suc done) (t .core) p (t .bytes) x
-    said x = ap (λ r. scheduled (b - suc done) (suc done) (r .core) p m' x) read ∙ ap (λ (z : List ℕ). scheduled (b - suc done) (suc done) (t .core) p z x) left
+    said x = ap (λ r. scheduled (b - suc done) (suc done) (r .core) p m' x) next-said ∙ ap (λ (z : List ℕ). scheduled (b - suc done) (suc done) (t .core) p z x) left
 
     offers : offered (suc done) (d ∷ ds) ≡ Vector vector
     offers = rw (le-leb tick (suc done) due)
@@ -67,7 +102,7 @@ module _ (b done vector : ℕ) (s p m s' m' : List ℕ) (n : ℕ) (h : readOf s 
 
     -- the run that the snapshot then says
     over : (a : Over) (count : ℕ) → a .answer ≡ n → a .ticks ≡ count → saidRun a s' m' ≡ ended count t
-    over a count e c = let core : saidBy s' ≡ t .core = ap (λ r. r .core) read in cc (e, numbered, c, core, left)
+    over a count e c = let core : saidBy s' ≡ t .core = ap (λ r. r .core) next-said in cc (e, numbered, c, core, left)
 
     module _ (a : Over) (e : a .answer ≡ n) where
       -- refused, or stopped

@@ -28,7 +28,7 @@ use Rattle.run.specs.declared.over.Over.{Over}
 use Rattle.run.proofs.Calls.{run-in-refused, check-told}
 use Rattle.run.proofs.Through.{too-busy}
 use Rattle.schedule.specs.Schedule.{Record, recordsOf, rising, refusalOf, offered, Scheduled, stopped, scheduled, numbersOf, scheduleOf, refusalIn, scheduleIn, ofCheck}
-use Rattle.schedule.specs.Follow.{saidRun, Follows}
+use Rattle.schedule.specs.Follow.{Follows}
 use Rattle.schedule.proofs.Steps.{stepBy, one-tick}
 use Rattle.schedule.proofs.Following.{many-records}
 

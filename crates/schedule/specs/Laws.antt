@@ -1,6 +1,6 @@
 -- What is known of a scheduled run: that it equals single ticks with its offers, and its numbers.
--- k is a core, p a program, m the bytes of data, l the bytes of a list, d is a record, ds are records, e are numbers, one a record, v is what is offered by the tick's number, from 1,
--- j a number of ticks done, b a budget, x what a scheduled run gives.
+-- k is a core, p a program, m the bytes of data, l the bytes of a list, i the number of a record, from 0, d a record, ds are records, e are numbers, one a record, and n is one of them; v is what is
+-- offered by the tick's number, from 1, j a number of ticks done, b a budget, t what a tick gives, r what a run gives, x what a scheduled run gives.
 use mathlib.Core.Path.{_≡_}
 use mathlib.Core.Logic.{_⊎_}
 use mathlib.Core.Bool.{true, false, not, _&&_}

@@ -1,6 +1,6 @@
 -- 02, W5: "Field staff give us the ticks at which the sample timer fired. We want a run driven by such a list."
--- l are the bytes of a list, d is a record, ds are the records not yet entered, k is a core, p a program, m the bytes of data, s the bytes of a snapshot, e the numbers lent for
--- output, t what a tick gives, x what a scheduled run gives.
+-- l are the bytes of a list, i is the number of a record, from 0, d a record, ds are records, in a run those not yet entered; k is a core, p a program, m the bytes of data, s the bytes of a
+-- snapshot, e the numbers lent for output, t what a tick gives, r what a run gives, x what a scheduled run gives, n a number of 01's table or 02's.
 use mathlib.Core.Bool.{Bool, true, false, _&&_, _||_}
 use mathlib.Core.List.{List, [], _∷_, _++_}
 use Prim.Native.Nat.{ℕ, zero, suc, _+_, _*_, _/_, _%_}
@@ -21,7 +21,7 @@ pub record Record : Type 0 where
   pub tick : ℕ
   pub vector : ℕ
 
--- record number i, from 0
+-- record number i
 abbrev pub recordAt : List ℕ → ℕ → Record
 recordAt l i =
     record {

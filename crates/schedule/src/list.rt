@@ -1,6 +1,6 @@
 // A list's records, five bytes each: the number of a tick, 24 bits, and a vector, 16 bits, high byte first.
 ghost use mathlib.Core.Path.{_≡_};
-ghost use Prim.Native.Nat.{_+_, _*_, _/_, _<_, _≤_};
+ghost use Prim.Native.Nat.{_/_, _<_};
 ghost use lib.ListN.{length};
 ghost use Rattle.schedule.specs.Schedule.{recordAt, recordsOf, rising, refusalOf};
 

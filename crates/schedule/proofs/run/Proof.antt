@@ -8,7 +8,7 @@ use mir.Syntax.{w8}
 use mir.Val.{Fits}
 use borrow.Author.Needs.{needs}
 use Rattle.cores.specs.State.{Sound}
-use Rattle.snapshot.specs.Snapshot.{readOf, writeOf}
+use Rattle.snapshot.specs.Snapshot.{readOf}
 use Rattle.snapshot.proofs.RoundTrips.{reading-undoes-writing}
 use Rattle.schedule.specs.Schedule.{refusalOf}
 use Rattle.schedule.proofs.Checks.{passed-room}

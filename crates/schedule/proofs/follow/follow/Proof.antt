@@ -1,15 +1,13 @@
 -- `follow`: a record a turn.
 -- Assumes nothing.
 use mathlib.Core.Path.{_≡_, refl, sym, ap, _∙_}
-use mathlib.Core.Bool.{true}
 use mathlib.Core.List.{List, _++_}
 use Prim.Native.Nat.{ℕ, _+_, _-_, _/_, _≤_, _<_}
 use native.Mathlib.Omega.{arith}
 use lib.ListN.{drop, length, replicate}
 use borrow.Author.Needs.{needs}
 use Rattle.basis.specs.Bytes.{Bytes}
-use Rattle.run.specs.declared.over.Over.{Over}
-use Rattle.schedule.specs.Schedule.{recordAt, recordsOf, rising}
+use Rattle.schedule.specs.Schedule.{recordAt}
 use Rattle.schedule.specs.Follow.{Serves}
 use Rattle.schedule.proofs.Checks.{passed-rises, passed-room}
 use Rattle.schedule.proofs.Following.{Stands, stands-first, stands-next, follows-ended, count-fits, follows-last, past-zeros}
@@ -94,22 +92,18 @@ returns c =
     let w = c .before .before .before .before .before .before .before in
     let h = head w in
     let a = start w .args in
-    follows-ended (a .snapshot .now) (a .program .now) (a .«data» .now) (l w) (a .budget) (drop (length (l w) / 5) (h .before .before .before .clear .last .0))
-    (h .loop .snapshot) (h .loop .«data») (h .loop .entered) (i w) (h .loop .done) (stands w) (more w) (w .serve .result) (served w)
+    follows-ended (stands w) (more w) (w .serve .result) (served w)
     (a .entered .now) (kept-past (h .before)) (c .told .result) (c .before .if1 .taken) (ap (λ x. x .answer) (c .told .ensures)) (ap (λ x. x .ticks) (c .told .ensures))
 
 loop-again : tie.Need-loop-again Inv-loop μ-loop
 loop-again c =
-    let w = c .before .before .before .before .before .before in
-    let h = head w in
-    let a = start w .args in (
+    let w = c .before .before .before .before .before .before in (
       same-snapshot w,
       (
         same-data w,
         (
           search needs,
-          stands-next (a .snapshot .now) (a .program .now) (a .«data» .now) (l w) (a .budget) (drop (length (l w) / 5) (h .before .before .before .clear .last .0))
-              (h .loop .snapshot) (h .loop .«data») (h .loop .entered) (i w) (h .loop .done) (stands w) (more w) (w .serve .result) (served w) (c .if1 .left)
+          stands-next (stands w) (more w) (w .serve .result) (served w) (c .if1 .left)
               (record { byte-lt = λ j. omega (arith, c .before .before .before .before .slice-known5 .given j) }) (record { byte-lt = λ j. omega (arith, c .before .before .slice-known6 .given j) }),
         ),
       ),
@@ -122,7 +116,7 @@ roomy c =
     let room = passed-room (l c) (length (start c .args .entered .now)) (start c .pre .1) in
     omega (arith, more c, room, h .loop .inv .1 .1 .0, h .before .before .before .clear .kept .0)
 
--- behind the run with no record left, from s to s'2 and from m to m'2
+-- behind the run with no record left
 module _ (c : tie.After-run-in Inv-loop μ-loop) where
   abbrev end : tie.At-loop Inv-loop μ-loop
   end = c .before .before .before .before
@@ -145,17 +139,14 @@ module _ (c : tie.After-run-in Inv-loop μ-loop) where
 
   fits : end .loop .done + c .run-in .result .ticks ≤ first .args .budget
   fits =
-      count-fits (first .args .snapshot .now) (first .args .program .now) (first .args .«data» .now) (first .args .list .now) (first .args .budget) past
-      (end .loop .snapshot) (end .loop .«data») (end .loop .entered) (c .run-in .last .0) (c .run-in .last .1 .1 .0) (end .loop .i) (end .loop .done) stands-last none-left program-bytes
-      (c .run-in .result) (c .run-in .ensures)
+      count-fits stands-last none-left program-bytes (c .run-in .result) (c .run-in .last .0) (c .run-in .last .1 .1 .0) (c .run-in .ensures)
 
 returns-2 : tie.Need-returns-2 Inv-loop μ-loop
 returns-2 c =
     let w = c .before .before .before .before .before .before in
     let h = end w in
     let a = first w .args in
-    follows-last (a .snapshot .now) (a .program .now) (a .«data» .now) (a .list .now) (a .budget) (past w) (h .loop .snapshot) (h .loop .«data») (h .loop .entered)
-    (w .run-in .last .0) (w .run-in .last .1 .1 .0) (h .loop .i) (h .loop .done) (stands-last w) (none-left w) (program-bytes w) (w .run-in .result) (w .run-in .ensures)
+    follows-last (stands-last w) (none-left w) (program-bytes w) (w .run-in .result) (w .run-in .last .0) (w .run-in .last .1 .1 .0) (w .run-in .ensures)
     (c .told2 .result) (ap (λ x. x .answer) (c .told2 .ensures)) (ap (λ x. x .ticks) (c .told2 .ensures)) (a .entered .now) (kept-past (h .before))
 
 pub follow-spec : {M : Type 1} → statement M

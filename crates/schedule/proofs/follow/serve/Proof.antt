@@ -1,32 +1,27 @@
 -- `serve`: with no offer until the record is due, then `wait`.
 -- Assumes nothing.
-use mathlib.Core.Path.{_≡_, refl, sym, ap, subst, _∙_}
+use mathlib.Core.Path.{_≡_, refl, ap, subst, _∙_}
 use mathlib.Core.Bool.{true, false}
 use mathlib.Core.List.{List, _∷_}
 use Prim.Native.Nat.{ℕ, suc, _+_, _≤_, _<_}
 use native.Mathlib.Omega.{arith}
 use lib.Dec.{eqb}
-use lib.ListN.{length}
 use borrow.Author.Needs.{needs}
 use Rattle.basis.specs.Bytes.{Bytes}
 use Rattle.snapshot.specs.Snapshot.{readOf}
 use Rattle.tick.specs.declared.Offer.the-variants.{Nothing}
-use Rattle.run.specs.Run.{runOf}
-use Rattle.run.specs.Over.{saidBy, runIn, RunsIn}
+use Rattle.run.specs.Over.{runIn, RunsIn}
 use Rattle.run.specs.declared.over.Over.{Over}
-use Rattle.schedule.specs.Schedule.{Record, rising, stopped}
-use Rattle.schedule.specs.Follow.{restFrom, saidRun, untilOf, servedBy}
-use Rattle.schedule.proofs.Serving.{Ends, run-ends, answered, counted, ran-read, goes-on, ends-there, until-fits, due-then, none-before}
+use Rattle.schedule.specs.Schedule.{Record, rising, offered}
+use Rattle.schedule.specs.Follow.{restFrom, untilOf, servedBy}
+use Rattle.schedule.proofs.Serving.{Quiet, ran-read, few, all-done, apart, goes-on, ends-there, until-fits, due-then, none-before}
 use Rattle.schedule.proofs.follow.serve.Statement.{statement}
 use Rattle.schedule.proofs.follow.serve.Tie as tie
 
--- behind the run with no offer, from s to s' and from m to m'
+-- behind the run with no offer
 module _ (c : tie.After-run-in) where
   abbrev start : tie.Start
   start = c .before .before .before .before .before .before .before
-
-  abbrev p : List ℕ
-  p = start .args .program .now
 
   abbrev d : Record
   d = record { tick = start .args .tick; vector = start .args .vector }
@@ -37,14 +32,17 @@ module _ (c : tie.After-run-in) where
   abbrev done : ℕ
   done = start .args .done
 
+  abbrev u : ℕ
+  u = untilOf (d .tick) done b
+
   abbrev s : List ℕ
   s = start .args .snapshot .now
 
+  abbrev p : List ℕ
+  p = start .args .program .now
+
   abbrev m : List ℕ
   m = start .args .«data» .now
-
-  abbrev a : Over
-  a = c .run-in .result
 
   abbrev s' : List ℕ
   s' = c .run-in .last .0
@@ -52,14 +50,8 @@ module _ (c : tie.After-run-in) where
   abbrev m' : List ℕ
   m' = c .run-in .last .1 .1 .0
 
-  abbrev u : ℕ
-  u = untilOf (d .tick) done b
-
-  passed : readOf s .refusal ≡ 0
-  passed = start .pre .0
-
-  low : done ≤ b
-  low = start .pre .1
+  abbrev a : Over
+  a = c .run-in .result
 
   snapshot-bytes : Bytes s
   snapshot-bytes = record { byte-lt = λ i. omega (arith, c .before .before .before .before .before .before .slice-known .given i) }
@@ -76,31 +68,44 @@ module _ (c : tie.After-run-in) where
       let ran : RunsIn (runIn s p m Nothing (c .before .until .result)) a s' m' = c .run-in .ensures in
       subst (λ (n : ℕ). RunsIn (runIn s p m Nothing n) a s' m') many ran
 
+  abbrev quiet : Quiet
+  quiet =
+      record {
+        u = u;
+        s = s;
+        p = p;
+        m = m;
+        s' = s';
+        m' = m';
+        a = a;
+        read = start .pre .0;
+        snapshot-bytes = snapshot-bytes;
+        program-bytes = program-bytes;
+        data-bytes = data-bytes;
+        runs = ensured;
+      }
+
   read : readOf s' .refusal ≡ 0
-  read = ap (λ x. x .refusal) (ran-read u s p m s' m' a passed snapshot-bytes program-bytes data-bytes ensured)
+  read = ap (λ x. x .refusal) (ran-read quiet)
 
-  ends : Ends u (runOf u (saidBy s) p m Nothing)
-  ends = run-ends u (saidBy s) p m
+  fits : done + u ≤ b
+  fits = until-fits (d .tick) done b (start .pre .1)
 
-  few : done + a .ticks ≤ b
-  few = omega (arith, counted u s p m s' m' a passed snapshot-bytes program-bytes data-bytes ensured, ends .few, until-fits (d .tick) done b low)
-
-  -- all of them done
-  then : a .answer ≡ 24 → done + a .ticks ≡ done + u
-  then e =
-      let whole = ends .whole (sym (answered u s p m s' m' a passed snapshot-bytes program-bytes data-bytes ensured) ∙ e) in
-      omega (arith, counted u s p m s' m' a passed snapshot-bytes program-bytes data-bytes ensured, whole)
+  in-budget : done + a .ticks ≤ b
+  in-budget = omega (arith, few quiet, fits)
 
   module _ (ds : List Record) (f : rising (d .tick) ds ≡ true) where
+    none : (x : ℕ) → done < x → x ≤ done + u → offered x (d ∷ ds) ≡ Nothing
+    none = none-before (d .tick) done b d ds refl f (start .pre .1)
+
     onward : a .answer ≡ 24 → restFrom b done s p m (d ∷ ds) ≡ restFrom b (done + a .ticks) s' p m' (d ∷ ds)
-    onward = goes-on u s p m s' m' a passed snapshot-bytes program-bytes data-bytes ensured b done (d ∷ ds) (until-fits (d .tick) done b low) (none-before (d .tick) done b d ds refl f low)
+    onward = goes-on quiet b done (d ∷ ds) fits none
 
     -- ended before
     ended : (x : Over) → (a .answer ≡ 24 → ⊥) → x .answer ≡ a .answer → x .ticks ≡ done + a .ticks → restFrom b done s p m (d ∷ ds) ≡ servedBy x b s' p m' d ds
     ended x z e t =
-        let apart : eqb (x .answer) 17 ≡ false = rw (e, answered u s p m s' m' a passed snapshot-bytes program-bytes data-bytes ensured) (ends .apart) in
-        ends-there u s p m s' m' a passed snapshot-bytes program-bytes data-bytes ensured b done (d ∷ ds) (until-fits (d .tick) done b low) (none-before (d .tick) done b d ds refl f low) x z e t
-        ∙ rw apart
+        let no-entry : eqb (x .answer) 17 ≡ false = rw e (apart quiet) in
+        ends-there quiet b done (d ∷ ds) fits none x z e t ∙ rw no-entry
 
 returns : tie.Need-returns
 returns c =
@@ -110,7 +115,7 @@ returns c =
     record {
       read = read w;
       onward = omega (arith, ticks);
-      bounded = omega (arith, ticks, few w);
+      bounded = omega (arith, ticks, in-budget w);
       rest = λ ds f. ended w ds f (c .told .result) (c .before .before .if1 .taken) answer ticks;
     }
 
@@ -119,9 +124,9 @@ returns-2 c =
     let r = c .before .before .before .before in
     let w = r .before .before .before .before .before .before .before .before .before .before in
     let spent = r .before .before .before .before .if1 .left in
-    let now : done w + a w .ticks ≡ done w + u w = then w spent in
+    let now = all-done (quiet w) spent in
     let due : done w + a w .ticks < b w → d w .tick ≤ suc (done w + a w .ticks) =
-    λ g. omega (arith, now, due-then (d w .tick) (done w) (b w) (low w) (omega (arith, now, g))) in
+    λ g. omega (arith, now, due-then (d w .tick) (done w) (b w) (start w .pre .1) (omega (arith, now, g))) in
     let served = r .wait .ensures (d w .tick) due in
     record {
       read = served .read;
@@ -136,13 +141,13 @@ serve-spec =
     (tie.spec
     (λ c κs. search needs)
     (λ c κs. search needs)
-    (λ c. let w = c .before .before .before .before .before .before .before in omega (arith, few w, start w .fits .budget .fits))
+    (λ c. let w = c .before .before .before .before .before .before .before in omega (arith, in-budget w, start w .fits .budget .fits))
     (λ c κs. search needs)
     (λ c. search needs)
     (λ c. search needs)
     returns
-    (λ c. let w = c .before .before .before .before .before .before .before .before .before in omega (arith, few w, start w .fits .budget .fits))
-    (λ c κs. let w = c .before .before .before .before .before .before .before .before .before in (read w, few w))
+    (λ c. let w = c .before .before .before .before .before .before .before .before .before in omega (arith, in-budget w, start w .fits .budget .fits))
+    (λ c κs. let w = c .before .before .before .before .before .before .before .before .before in (read w, in-budget w))
     (λ c. search needs)
     (λ c. search needs)
     returns-2)
