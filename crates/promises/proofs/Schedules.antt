@@ -15,13 +15,13 @@ use Rattle.tick.specs.declared.Offer.{Offer}
 use Rattle.tick.specs.Tick.{Tick, numberOf, tickOf}
 use Rattle.run.specs.Run.{Run}
 use Rattle.schedule.specs.Schedule.{recordsOf, rising}
-use Rattle.schedule.specs.Laws.{afterBy, tickBy, SpentBy, entriesBy, offers}
+use Rattle.schedule.specs.Laws.{afterBy, tickBy, SpentBy, entersBy, howMany, offers}
 use Rattle.schedule.specs.Laws as laws
 use Rattle.schedule.proofs.Steps.{by-number}
 use Rattle.schedule.proofs.Laws.{schedules-are-ticks, empty-list-is-a-run}
 use Rattle.promises.specs.Handlers.{iterated}
 use Rattle.promises.specs.Interrupts.{State, Offers, noOffers, tickAt, after, numberAt, enters}
-use Rattle.promises.specs.Schedules.{handlers, x, v, plain, SchedulesLeaveNoTrace}
+use Rattle.promises.specs.Schedules.{x, v, plain, SchedulesLeaveNoTrace}
 use Rattle.promises.proofs.Interrupts.{no-trace-at-the-end}
 
 -- core and data, as a pair
@@ -45,9 +45,9 @@ module _ (p : List ℕ) (s : State) (w : ℕ → Offer) where
   same-number : (j : ℕ) → numberOf (tickBy w (s .core) p (s .bytes) j .answer) ≡ numberAt p s from-0 j
   same-number j = ap (λ (t : Tick). numberOf (t .answer)) (same-tick j)
 
-  same-entries : (j : ℕ) → handlers (enters p s from-0) j ≡ entriesBy w (s .core) p (s .bytes) j
+  same-entries : (j : ℕ) → howMany (enters p s from-0) j ≡ howMany (entersBy w (s .core) p (s .bytes)) j
   same-entries zero = refl
-  same-entries (suc j) = ap (λ (n : ℕ). n + one (enters p s from-0 j)) (same-entries j) ∙ ap (λ (n : ℕ). entriesBy w (s .core) p (s .bytes) j + one (eqb n 17)) (sym (same-number j))
+  same-entries (suc j) = ap (λ (n : ℕ). n + one (enters p s from-0 j)) (same-entries j) ∙ ap (λ (n : ℕ). howMany (entersBy w (s .core) p (s .bytes)) j + one (eqb n 17)) (sym (same-number j))
 
 -- ---- a scheduled run that did all its ticks
 spends : (b : ℕ) (k : Core) (p m l : List ℕ) → rising 0 (recordsOf l) ≡ true → laws.x b k p m l .run .answer ≡ 24 → SpentBy (offers b k p m l) k p m b (laws.x b k p m l .run)
@@ -129,7 +129,7 @@ schedules-leave-no-trace p s l n long a =
         same-pc = through (λ k. k .pc) (trace .same-pc);
         plain-wrote = ap (λ (z : Core × List ℕ). z .1) plainly ∙ trace .plain-wrote short (omega arith);
         ticks = omega (arith, spent p s l long (a .rises) (a .spent) .count, count, trace .ticks);
-        entered = same-entries p s offered long ∙ ap (λ (j : ℕ). entriesBy offered (s .core) p (s .bytes) j) (sym (spent p s l long (a .rises) (a .spent) .count))
+        entered = same-entries p s offered long ∙ ap (λ (j : ℕ). howMany (entersBy offered (s .core) p (s .bytes)) j) (sym (spent p s l long (a .rises) (a .spent) .count))
             ∙ schedules-are-ticks long (s .core) p (s .bytes) l (a .rises) .as-many;
         no-trace = trace;
       },

@@ -1,25 +1,19 @@
 -- Demand 3 by an interrupt schedule (02, W5): a run by a list through a stretch of the register-only list ends as the plain run does, under the demand's premises, and the records entered
 -- say how many handlers there were.
--- p is a program, s core and data at the start, l the bytes of a list, n how many instructions the stretch has, x what the scheduled run gives, v what it is offered, from tick 0; t and r are
--- numbers of ticks.
+-- p is a program, s core and data at the start, l the bytes of a list, n how many instructions the stretch has, x what the scheduled run gives, v what it is offered, from tick 0; t, r, long and short
+-- are numbers of ticks.
 use mathlib.Core.Path.{_≡_}
-use mathlib.Core.Bool.{Bool, true}
+use mathlib.Core.Bool.{true}
 use mathlib.Core.List.{List, [], _∷_}
-use Prim.Native.Nat.{ℕ, zero, suc, _+_, _<_}
-use Rattle.basis.specs.Bit.{one}
+use Prim.Native.Nat.{ℕ, suc, _+_, _<_}
 use Rattle.cores.specs.State.{reg}
 use Rattle.tick.specs.declared.Offer.the-variants.{Nothing}
 use Rattle.run.specs.Run.{Run, runOf}
 use Rattle.schedule.specs.Schedule.{recordsOf, rising, Scheduled, scheduled}
-use Rattle.schedule.specs.Laws.{offers, enteredIn}
+use Rattle.schedule.specs.Laws.{howMany, offers, enteredIn}
 use Rattle.promises.specs.Handlers.{First, FirstReti, handlerTicks}
 use Rattle.promises.specs.Interrupts.{State, Offers, enters, returns, Ended, Restored, Begins, NoTrace}
 use Rattle.promises.specs.Stamps.{program, start}
-
--- how many of the first j ticks enter, each a handler
-abbrev pub handlers : (ℕ → Bool) → ℕ → ℕ
-handlers enters zero = 0
-handlers enters (suc j) = handlers enters j + one (enters j)
 
 -- a run by the list with a budget of `long` ticks
 module _ (p : List ℕ) (s : State) (l : List ℕ) (long : ℕ) where
@@ -51,9 +45,9 @@ module _ (p : List ℕ) (s : State) (l : List ℕ) (long : ℕ) where
     pub same-sp : x .run .core .sp ≡ plain short .core .sp
     pub same-pc : x .run .core .pc ≡ plain short .core .pc
     pub plain-wrote : plain short .bytes ≡ s .bytes
-    -- it took the handlers' ticks more, and as many handlers as records were entered
+    -- it took the handlers' ticks more; as many ticks enter, each a handler, as records were entered
     pub ticks : x .run .count ≡ plain short .count + handlerTicks (enters p s v) (returns p s v) long
-    pub entered : handlers (enters p s v) long ≡ enteredIn (x .entries)
+    pub entered : howMany (enters p s v) long ≡ enteredIn (x .entries)
     -- and whatever else demand 3 says of the two
     pub no-trace : NoTrace p s n v long short
 

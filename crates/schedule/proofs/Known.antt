@@ -21,7 +21,7 @@ use Rattle.tick.specs.declared.Answer.the-variants.{Refused, Waited, Entered, R
 use Rattle.tick.proofs.Steps.{refused-keeps}
 use Rattle.run.specs.Run.{Run}
 use Rattle.schedule.specs.Schedule.{Record, rising, offered, Scheduled, scheduled}
-use Rattle.schedule.specs.Laws.{afterBy, tickBy, entriesBy, offeredAt, enteredIn}
+use Rattle.schedule.specs.Laws.{afterBy, tickBy, entersBy, howMany, offeredAt, enteredIn}
 use Rattle.schedule.proofs.Steps.{ByNumber, by-number, stepBy, above, not-due}
 
 -- ---- the numbers of a run from its tick j on are 0 or above j
@@ -113,6 +113,9 @@ module _ (v : ℕ → Offer) (k₀ : Core) (p m₀ : List ℕ) where
   abbrev tick : ℕ → Tick
   tick j = tickBy v k₀ p m₀ j
 
+  abbrev enters : ℕ → Bool
+  enters j = entersBy v k₀ p m₀ j
+
   -- from tick j to tick n none ends the run
   abbrev pub On : ℕ → ℕ → Type 0
   On j n = (i : ℕ) → j ≤ i → i < n → (refuses (tick i .answer) ≡ false) × (stops (tick i .answer) ≡ false)
@@ -164,7 +167,7 @@ module _ (v : ℕ → Offer) (k₀ : Core) (p m₀ : List ℕ) where
     pub ends : Ends left j (x .run)
     pub marked : Marked j (x .run .count) ds (x .entries)
     pub only : (i : ℕ) → j ≤ i → i < x .run .count → tick i .answer ≡ Entered → In (suc i) (x .entries)
-    pub as-many : entriesBy v k₀ p m₀ (x .run .count) ≡ entriesBy v k₀ p m₀ j + enteredIn (x .entries)
+    pub as-many : howMany enters (x .run .count) ≡ howMany enters j + enteredIn (x .entries)
 
   -- ---- one tick more
   on-from : (j n : ℕ) → (refuses (tick j .answer) ≡ false) × (stops (tick j .answer) ≡ false) → On (suc j) n → On j n
@@ -218,8 +221,8 @@ module _ (v : ℕ → Offer) (k₀ : Core) (p m₀ : List ℕ) where
     answers = ap (λ (z : Tick). z .answer) same
 
     -- what one tick adds to the count of entries
-    counts : (e : Bool) → eqb (numberOf (t .answer)) 17 ≡ e → entriesBy v k₀ p m₀ (suc j) ≡ entriesBy v k₀ p m₀ j + one e
-    counts e z = ap (λ a. entriesBy v k₀ p m₀ j + one (eqb (numberOf a) 17)) answers ∙ ap (λ y. entriesBy v k₀ p m₀ j + one y) z
+    counts : (e : Bool) → eqb (numberOf (t .answer)) 17 ≡ e → howMany enters (suc j) ≡ howMany enters j + one e
+    counts e z = ap (λ a. howMany enters j + one (eqb (numberOf a) 17)) answers ∙ ap (λ y. howMany enters j + one y) z
 
     by-step : (r s e : Bool) → refuses (t .answer) ≡ r → stops (t .answer) ≡ s → eqb (numberOf (t .answer)) 17 ≡ e
         → (eqb (numberOf (t .answer)) 17 ≡ true → FirstDue j ds) → ByNumber (offered (suc j) ds) t

@@ -3,7 +3,7 @@
 -- offered by the tick's number, from 1, j a number of ticks done, b a budget, t what a tick gives, r what a run gives, x what a scheduled run gives.
 use mathlib.Core.Path.{_≡_}
 use mathlib.Core.Logic.{_⊎_}
-use mathlib.Core.Bool.{true, false, not, _&&_}
+use mathlib.Core.Bool.{Bool, true, false, not, _&&_}
 use mathlib.Core.List.{List, [], _∷_}
 use Prim.Native.Nat.{ℕ, zero, suc, _+_, _/_, _≤_, _<_}
 use lib.Dec.{eqb, leb, ltb}
@@ -53,10 +53,14 @@ module _ (v : ℕ → Offer) (k : Core) (p m : List ℕ) where
     pub stopped : stops (tickBy others .answer) ≡ true
     pub answer : r .answer ≡ numberOf (tickBy others .answer)
 
-  -- how many of the first j ticks entered
-  abbrev pub entriesBy : ℕ → ℕ
-  entriesBy zero = 0
-  entriesBy (suc j) = entriesBy j + one (eqb (numberOf (tickBy j .answer)) 17)
+  -- the tick behind so many enters
+  abbrev pub entersBy : ℕ → Bool
+  entersBy j = eqb (numberOf (tickBy j .answer)) 17
+
+-- of how many of the first j ticks something holds
+abbrev pub howMany : (ℕ → Bool) → ℕ → ℕ
+howMany holds zero = 0
+howMany holds (suc j) = howMany holds j + one (holds j)
 
 -- ---- the offers
 -- "At every tick the earliest record that is due and not yet entered is offered": by the numbers, a record was entered before a tick where its number is not 0 and is lower
@@ -99,7 +103,7 @@ module _ (b : ℕ) (k : Core) (p m l : List ℕ) where
     pub each : (i : ℕ) → i < length l / 5 → (numberAt i ≡ 0) ⊎ ((behind : ℕ) × EntryAt i behind)
     -- 0 exactly where none came: each entry of the run is a record's
     pub only : (j : ℕ) → j < x .run .count → tickBy offers k p m j .answer ≡ Entered → (i : ℕ) × ((i < length l / 5) × (numberAt i ≡ suc j))
-    pub as-many : entriesBy offers k p m (x .run .count) ≡ enteredIn (x .entries)
+    pub as-many : howMany (entersBy offers k p m) (x .run .count) ≡ enteredIn (x .entries)
     -- entries rise, in the list's order
     pub rise : (i later : ℕ) → i < later → 0 < numberAt later → (0 < numberAt i) × (numberAt i < numberAt later)
 
