@@ -56,6 +56,7 @@ make_claims() { # FIELD: a repository whose README names this field, and whose p
     rm -rf "$made"
     mkdir -p "$made/crates/promises/specs" "$made/crates/promises/proofs" "$made/crates/contracts/specs"
     printf 'pub record Demand1 : Type 0 where\n  pub tick : Ticks\n' >"$made/crates/promises/specs/Demands.antt"
+    printf 'pub record Requests : Type 0 where\n  pub hex : Hexes\n' >"$made/crates/promises/specs/Requests.antt"
     printf 'pub record Claims : Type 0 where\n  pub trace : Traces\n' >"$made/crates/promises/specs/Claims.antt"
     printf 'pub record Contracts : Type 2 where\n  pub run : run.statement\n' >"$made/crates/contracts/specs/Contracts.antt"
     printf 'pub ticks : Ticks\n\npub unclaimed : Unclaimed\n\npub demand1 : Demand1\n' >"$made/crates/promises/proofs/Demands.antt"
@@ -64,7 +65,7 @@ make_claims() { # FIELD: a repository whose README names this field, and whose p
 
 finds_what_is_unclaimed() {
     make_claims Demand1.tock
-    printf '%s\n' 'crates/promises/proofs/Demands.antt: Unclaimed is no field of Demands.antt or Claims.antt' 'README.md: no field Demand1.tock' >"$work/faults"
+    printf '%s\n' 'crates/promises/proofs/Demands.antt: Unclaimed is no field of Demands.antt, Requests.antt or Claims.antt' 'README.md: no field Demand1.tock' >"$work/faults"
     tools/claims "$made" >"$work/said"
     [ $? = 1 ] && cmp -s "$work/faults" "$work/said" || return 1
     make_claims Demand1.tick

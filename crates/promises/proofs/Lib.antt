@@ -1,5 +1,5 @@
 -- Demand 3. `Lockstep`, `Handled`, `Arrival`: for any machine. `Instructions`, `Stack`, `TickLaws`: the laws of `tickOf`. `Interrupts`: the demand.
--- `OneHandler`, `Stamps`: the worked runs. `Schedules`, `ScheduledStamps`: by a schedule. Demand 1: `BenchSheet`, 01's thirteen lines; `OneOutcome`. `Demands`: all three. `Claims`: what else is claimed.
+-- `OneHandler`, `Stamps`: the worked runs. `Schedules`, `ScheduledStamps`: by a schedule. Demand 1: `BenchSheet`, 01's thirteen lines; `OneOutcome`. `Demands`: all three. `Requests`: what the later requests promise. `Claims`: what else is claimed.
 pub mod Logic
 pub mod Lockstep
 pub mod Handled
@@ -15,4 +15,5 @@ pub mod ScheduledStamps
 pub mod BenchSheet
 pub mod OneOutcome
 pub mod Demands
+pub mod Requests
 pub mod Claims

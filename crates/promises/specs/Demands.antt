@@ -1,5 +1,5 @@
 -- THE THREE DEMANDS, each whole, in the words of the person who asked for it (shared/DEMANDS.md). A line names a statement; the comment above it names the file
--- where that stands. `Claims` beside this file has what else is claimed.
+-- where that stands. `Requests` beside this file has what the later requests promise, `Claims` what else is claimed.
 use Rattle.invariants.specs.Ticks.{TicksStayInRange, RefusedTicksChangeNothing, TicksLeaveBusyAtMost4}
 use Rattle.run.specs.Run.{RunsAreTicks, SameUnderLargerBudget}
 use Rattle.snapshot.specs.Snapshot.{ReadingUndoesWriting, WritingUndoesReading}

@@ -1,0 +1,59 @@
+-- What the later requests promise holds.
+-- Assumes nothing.
+use Rattle.tick.proofs.Foretold.{foretold}
+use Rattle.run.proofs.Told.{told-runs}
+use Rattle.run.proofs.Waits.{waits-out}
+use Rattle.run.proofs.Onward.{ran-goes-on}
+use Rattle.invariants.proofs.Controls.{instructions-keep-the-rule, pointers-wait-by-the-rule}
+use Rattle.invariants.proofs.Rule.{ticks-keep-the-rule, rules-differ-where-asked}
+use Rattle.sampling.proofs.Sampling.{safe-after-sei, sampling-routine}
+use Rattle.snapshot.proofs.RoundTrips.{old-snapshots-read-unchanged}
+use Rattle.manual.proofs.Witnesses.{agreements}
+use Rattle.table_decode.proofs.Alike.{decodes-alike, ticks-alike, runs-alike}
+use Rattle.hex.proofs.Exactly.{each-number-exactly}
+use Rattle.hex.proofs.GivenBack.{given-back}
+use Rattle.hex.proofs.Unchanged.{refused-read, refused-write}
+use Rattle.hex.proofs.Once.{named-at-most-once}
+use Rattle.hex.proofs.EachByte.{each-byte}
+use Rattle.hex.proofs.Whole.{length-text}
+use Rattle.hex.proofs.Computed.{examples}
+use Rattle.schedule.proofs.Laws.{schedules-are-ticks, numbers-written, empty-list-is-a-run, same-schedule-under-larger-budget}
+use Rattle.table.proofs.Schedules.{schedule-calls-by-the-table}
+use Rattle.promises.proofs.Schedules.{schedules-leave-no-trace}
+use Rattle.promises.proofs.ScheduledStamps.{stamps-by-a-schedule}
+use Rattle.promises.specs.Requests.{Requests}
+
+pub requests : Requests
+requests =
+    record {
+      hex-numbers = each-number-exactly;
+      hex-given-back = given-back;
+      hex-refused-read = refused-read;
+      hex-refused-write = refused-write;
+      hex-named-once = named-at-most-once;
+      hex-each-byte = each-byte;
+      hex-text-length = length-text;
+      hex-examples = examples;
+      instructions-rule = instructions-keep-the-rule;
+      ticks-rule = ticks-keep-the-rule;
+      rules-differ = rules-differ-where-asked;
+      old-snapshots = old-snapshots-read-unchanged;
+      agreements = agreements;
+      pointer-waits = pointers-wait-by-the-rule;
+      after-sei = safe-after-sei;
+      sampling = sampling-routine;
+      schedule-ticks = schedules-are-ticks;
+      schedule-numbers = numbers-written;
+      schedule-empty = empty-list-is-a-run;
+      schedule-larger-budget = same-schedule-under-larger-budget;
+      schedule-calls = schedule-calls-by-the-table;
+      schedule-no-trace = schedules-leave-no-trace;
+      schedule-stamps = stamps-by-a-schedule;
+      foretold = foretold;
+      decodes-alike = decodes-alike;
+      ticks-alike = ticks-alike;
+      runs-alike = runs-alike;
+      carried-out = told-runs;
+      waits-at-once = waits-out;
+      ran-goes-on = ran-goes-on;
+    }

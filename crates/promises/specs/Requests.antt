@@ -1,0 +1,69 @@
+-- WHAT THE LATER REQUESTS PROMISE (shared/02-change-requests.md), in their order. A line names a statement; the comment above it names the file where that stands. W3 promises
+-- nothing of its own: its functions meet their contracts.
+use Rattle.tick.specs.Plan.{TickIsTheTwoInTurn}
+use Rattle.run.specs.Ready.{CarriedOutIsTheTick}
+use Rattle.run.specs.Lent.{WaitsAtOnce, RanGoesOn}
+use Rattle.invariants.specs.Rule.{InstructionsKeepTheRule, TicksKeepTheRule, RulesDifferWhereAsked, PointersWaitByTheRule}
+use Rattle.sampling.specs.Sampling.{SafeAfterSei, SamplingRoutine}
+use Rattle.snapshot.specs.Snapshot.{OldSnapshotsReadUnchanged}
+use Rattle.manual.specs.Witnesses.{Agreements}
+use Rattle.table.specs.Schedules.{ScheduleCallsByTheTable}
+use Rattle.schedule.specs.Laws.{SchedulesAreTicks, NumbersWritten, EmptyListIsARun, SameScheduleUnderLargerBudget}
+use Rattle.table_decode.specs.Alike.{DecodesAlike, TicksAlike, RunsAlike}
+use Rattle.hex.specs.Answers.{EachNumberExactly}
+use Rattle.hex.specs.Promises.{WritingIsGivenBack, RefusedReadChangesNothing, RefusedWriteChangesNothing, NamedAtMostOnce, EachByteOfAFileRead, TextLength}
+use Rattle.hex.specs.Examples.{Examples}
+use Rattle.promises.specs.Schedules.{SchedulesLeaveNoTrace, StampsByASchedule}
+
+pub record Requests : Type 0 where
+  -- ---- W1. HEX files
+  -- crates/hex/specs/Answers.antt: each of 02's numbers 50 to 57 exactly where its condition holds, and at which line
+  pub hex-numbers : EachNumberExactly
+  -- crates/hex/specs/Promises.antt: what the writer made is given back; refused, nothing changes; no byte is named twice; what each byte then is; how long a text is
+  pub hex-given-back : WritingIsGivenBack
+  pub hex-refused-read : RefusedReadChangesNothing
+  pub hex-refused-write : RefusedWriteChangesNothing
+  pub hex-named-once : NamedAtMostOnce
+  pub hex-each-byte : EachByteOfAFileRead
+  pub hex-text-length : TextLength
+  -- crates/hex/specs/Examples.antt: small files
+  pub hex-examples : Examples
+  -- ---- W2. The rule
+  -- crates/invariants/specs/Rule.antt: the rule, source or chip: nothing changes it, and ADIW, pointer access and SEI alone ask for it
+  pub instructions-rule : InstructionsKeepTheRule
+  pub ticks-rule : TicksKeepTheRule
+  pub rules-differ : RulesDifferWhereAsked
+  -- crates/snapshot/specs/Snapshot.antt: what read before there was a rule reads the same, with rule source
+  pub old-snapshots : OldSnapshotsReadUnchanged
+  -- crates/manual/specs/Witnesses.antt: by the manual with every switch off, what chip does its way, and the waits of what goes by no pointer
+  pub agreements : Agreements
+  -- ---- W4. The chip's timing
+  -- crates/invariants/specs/Rule.antt: pointer access waits as the rule has it
+  pub pointer-waits : PointersWaitByTheRule
+  -- crates/sampling/specs/Sampling.antt: under chip the instruction behind SEI runs before any entry; a sampling routine under both rules
+  pub after-sei : SafeAfterSei
+  pub sampling : SamplingRoutine
+  -- ---- W5. An interrupt schedule
+  -- crates/schedule/specs/Laws.antt: a run by a list equals single ticks with its offers, and each number is the tick of an entry; the output; an empty list; a larger budget
+  pub schedule-ticks : SchedulesAreTicks
+  pub schedule-numbers : NumbersWritten
+  pub schedule-empty : EmptyListIsARun
+  pub schedule-larger-budget : SameScheduleUnderLargerBudget
+  -- crates/table/specs/Schedules.antt: each of 02's numbers 30 to 32 exactly where its condition holds; refused, nothing changes
+  pub schedule-calls : ScheduleCallsByTheTable
+  -- Schedules.antt: demand 3 by a list, and the two time stamps run by one
+  pub schedule-no-trace : SchedulesLeaveNoTrace
+  pub schedule-stamps : StampsByASchedule
+  -- ---- W7. What the next tick will do
+  -- crates/tick/specs/Plan.antt: what is foretold is what the tick then gives, and carrying it out leaves the tick's core and data
+  pub foretold : TickIsTheTwoInTurn
+  -- ---- W10. Decode by table
+  -- crates/table_decode/specs/Alike.antt: by the table every word is decoded as before, and no tick and no run can tell which decoder was used
+  pub decodes-alike : DecodesAlike
+  pub ticks-alike : TicksAlike
+  pub runs-alike : RunsAlike
+  -- ---- The fast run, which 02 does not ask for
+  -- crates/run/specs/Ready.antt, Lent.antt: over lent registers what is carried out is the tick's step, waits at once are that many ticks, and what remains is the rest of the same run
+  pub carried-out : CarriedOutIsTheTick
+  pub waits-at-once : WaitsAtOnce
+  pub ran-goes-on : RanGoesOn
