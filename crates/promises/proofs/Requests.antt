@@ -9,6 +9,12 @@ use Rattle.invariants.proofs.Rule.{ticks-keep-the-rule, rules-differ-where-aske
 use Rattle.sampling.proofs.Sampling.{safe-after-sei, sampling-routine}
 use Rattle.snapshot.proofs.RoundTrips.{old-snapshots-read-unchanged}
 use Rattle.manual.proofs.Witnesses.{agreements}
+use Rattle.latency.proofs.Entry.{entry-within-eight, entry-behind-the-waits}
+use Rattle.latency.proofs.Runs.{runs-enter-within-eight}
+use Rattle.latency.proofs.Schedule.{schedule-enters-within-eight, at-most-seven-late}
+use Rattle.latency.proofs.Computed.{eight-is-the-figure}
+use Rattle.latency.proofs.Cycles.{ticks-by-the-table, instructions-run-for-their-ticks}
+use Rattle.latency.proofs.Manual.{manual-beside}
 use Rattle.table_decode.proofs.Alike.{decodes-alike, ticks-alike, runs-alike}
 use Rattle.hex.proofs.Exactly.{each-number-exactly}
 use Rattle.hex.proofs.GivenBack.{given-back}
@@ -49,6 +55,15 @@ requests =
       schedule-calls = schedule-calls-by-the-table;
       schedule-no-trace = schedules-leave-no-trace;
       schedule-stamps = stamps-by-a-schedule;
+      within-eight = entry-within-eight;
+      behind-the-waits = entry-behind-the-waits;
+      run-within-eight = runs-enter-within-eight;
+      schedule-within-eight = schedule-enters-within-eight;
+      seven-late = at-most-seven-late;
+      eight = eight-is-the-figure;
+      ticks-by-the-table = ticks-by-the-table;
+      instruction-ticks = instructions-run-for-their-ticks;
+      manual-cycles = manual-beside;
       foretold = foretold;
       decodes-alike = decodes-alike;
       ticks-alike = ticks-alike;

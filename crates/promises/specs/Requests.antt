@@ -9,6 +9,9 @@ use Rattle.snapshot.specs.Snapshot.{OldSnapshotsReadUnchanged}
 use Rattle.manual.specs.Witnesses.{Agreements}
 use Rattle.table.specs.Schedules.{ScheduleCallsByTheTable}
 use Rattle.schedule.specs.Laws.{SchedulesAreTicks, NumbersWritten, EmptyListIsARun, SameScheduleUnderLargerBudget}
+use Rattle.latency.specs.Entry.{EntryWithinEight, EntryBehindTheWaits, RunsEnterWithinEight, ScheduleEntersWithinEight, AtMostSevenLate}
+use Rattle.latency.specs.Examples.{EightIsTheFigure}
+use Rattle.latency.specs.Cycles.{TicksByTheTable, InstructionsRunForTheirTicks, ManualBeside}
 use Rattle.table_decode.specs.Alike.{DecodesAlike, TicksAlike, RunsAlike}
 use Rattle.hex.specs.Answers.{EachNumberExactly}
 use Rattle.hex.specs.Promises.{WritingIsGivenBack, RefusedReadChangesNothing, RefusedWriteChangesNothing, NamedAtMostOnce, EachByteOfAFileRead, TextLength}
@@ -54,6 +57,19 @@ pub record Requests : Type 0 where
   -- Schedules.antt: demand 3 by a list, and the two time stamps run by one
   pub schedule-no-trace : SchedulesLeaveNoTrace
   pub schedule-stamps : StampsByASchedule
+  -- ---- W6. How long a waiting interrupt can wait
+  -- crates/latency/specs/Entry.antt: it is entered at or before the eighth tick, in a run of eight or more too; a record of a schedule so from any tick on, and at most seven ticks later than due
+  pub within-eight : EntryWithinEight
+  pub behind-the-waits : EntryBehindTheWaits
+  pub run-within-eight : RunsEnterWithinEight
+  pub schedule-within-eight : ScheduleEntersWithinEight
+  pub seven-late : AtMostSevenLate
+  -- crates/latency/specs/Examples.antt: a run that needs all eight, and for each premise one that it alone is lacking in
+  pub eight : EightIsTheFigure
+  -- crates/latency/specs/Cycles.antt: an instruction and its waits take the ticks of a table, four at most and two of a register-only one; the manual's cycles beside
+  pub ticks-by-the-table : TicksByTheTable
+  pub instruction-ticks : InstructionsRunForTheirTicks
+  pub manual-cycles : ManualBeside
   -- ---- W7. What the next tick will do
   -- crates/tick/specs/Plan.antt: what is foretold is what the tick then gives, and carrying it out leaves the tick's core and data
   pub foretold : TickIsTheTwoInTurn
