@@ -103,6 +103,16 @@ holds_the_table() { # of 4,096 entries one has a mark, and four high bytes are A
     ! tools/forms "$made" >/dev/null
 }
 
+holds_the_cycles() { # a table that is what its rows say, and one with a number less
+    rm -rf "$made"
+    mkdir -p "$made/crates/latency/specs" "$made/docs"
+    printf '    row (LDXinc 0) 3 2 2 ∷\n    row RET 4 4 4 ∷ []\n' >"$made/crates/latency/specs/Cycles.antt"
+    { echo 'Ticks by instruction:' && tools/cycles print "$made"; } >"$made/docs/CYCLES.md"
+    tools/cycles "$made" >/dev/null && grep -q '^| `LD Rd,X+` | 3 | 2 | 2 |$' "$made/docs/CYCLES.md" || return 1
+    sed -i 's/| 4 | 4 | 4 |/| 4 | 4 | 3 |/' "$made/docs/CYCLES.md"
+    ! tools/cycles "$made" >/dev/null
+}
+
 for sample in tests/contracts/*.sample; do
     as_it_says "$sample"
     note $? "$sample"
@@ -119,3 +129,5 @@ holds_sums
 note $? 'tools/sources'
 holds_the_table
 note $? 'tools/forms'
+holds_the_cycles
+note $? 'tools/cycles'
