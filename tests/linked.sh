@@ -51,7 +51,7 @@ says_the_foretold() { # COMMAND...: prints what each next tick would answer, wit
 }
 
 says_the_schedule() { # COMMAND...: prints when each firing of the timer was entered, how the run ended, and the hottest hour
-    entries=$(printf 'fired at tick %s: entered at tick %s\n' 100 380 900 900 950 966 2000 2000)
+    entries=$(printf 'fired at tick %s: entered at tick %s, %s later\n' 100 380 280 900 900 0 950 966 16 2000 2000 0)
     [ "$("$@")" = "$(printf '%s\n' "$entries" 'fired at tick 9000: not entered' 'answer 22 after 2557 ticks' 'hottest hour 80.35')" ]
 }
 

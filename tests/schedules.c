@@ -1,6 +1,6 @@
 /* schedules PROGRAMS SEED: random programs and lists of firings, each through one avr_run_schedule and through single calls of avr_tick with the offers that document 02 says (W5); result, count,
  * snapshot, data and every number of `entered` must be the same. It is proved; here the archive that a host links is seen to do it. Program number i has the seed SEED + i, so that one alone
- * can be run again. And one run past the last tick that a record can name. */
+ * can be run again. And one run past the last tick that a record can name. On the way each wait is held against W6: an entry comes at or before the eighth tick. */
 #include "random_program.h"
 #include <stdlib.h>
 
@@ -9,6 +9,8 @@
 #define MOST_NUMBERS (MOST_RECORDS + 8) /* a call is lent fewer mostly; the rest has to stay as it is */
 #define LAST_TICK 0xFFFFFFu
 #define RETI 0x9518
+#define SEI 0x9478
+#define MOST_WAIT 8
 
 struct scheduled {
     struct machine machine;
@@ -20,6 +22,7 @@ static size_t list_bytes, records, numbers;
 static uint32_t budget;
 static uint16_t handlers[4];
 static struct scheduled by_call, by_tick;
+static uint32_t waiting, longest_wait; /* ticks for which W6's conditions held, the entry's included */
 
 static uint32_t tick_of(size_t record) {
     const uint8_t *at = list + AVR_RECORD_BYTES * record;
@@ -119,6 +122,28 @@ static size_t offered_at(uint32_t tick, const uint32_t *entered) {
     return record;
 }
 
+/* W6: 'from a core with busy at most 3, not in service, with a vector offered at every tick and I set before every tick'. */
+static void wait_on(const uint8_t *snapshot, int offered) {
+    uint8_t last = snapshot[AVR_SNAPSHOT_BYTES - 1];
+    if (!offered || !(snapshot[32] & 0x80) || (last & 0x08))
+        waiting = 0;
+    else if (waiting > 0 || last >> 5 <= 3)
+        waiting++;
+}
+
+/* 'The entry comes at or before the eighth tick, provided .. no RETI runs meanwhile and, under the chip rule, no BSET 7 does'; word is the one at PC before the tick. */
+static int waited(uint32_t answer, unsigned word, int chip) {
+    if (waiting > longest_wait && answer == 17) longest_wait = waiting;
+    if (waiting >= MOST_WAIT && answer != 17 && answer >= 16) return 0;
+    if (answer == 17 || (answer >= 18 && (word == RETI || (chip && word == SEI)))) waiting = 0;
+    return 1;
+}
+
+static unsigned word_at_pc(const uint8_t *snapshot) {
+    size_t at = 2 * ((size_t)snapshot[33] << 8 | snapshot[34]);
+    return at + 1 < program_bytes ? program[at] | (unsigned)program[at + 1] << 8 : 0;
+}
+
 /* 'It equals single ticks with those offers', 'the tick of its entry, or 0 where the run stopped before one'. It stops as in tests/runs.c. */
 static void by_ticks(struct scheduled *s) {
     struct machine *m = &s->machine;
@@ -126,10 +151,14 @@ static void by_ticks(struct scheduled *s) {
     m->answer = refusal();
     if (m->answer != 0) return;
     memset(s->entered, 0, records * sizeof s->entered[0]);
+    waiting = 0;
     for (m->ticks = 0; m->ticks < budget; m->ticks++) {
         uint32_t tick = m->ticks + 1;
         size_t record = offered_at(tick, s->entered);
+        unsigned word = word_at_pc(m->snapshot);
+        wait_on(m->snapshot, record < records);
         m->answer = avr_tick(m->snapshot, snapshot_bytes, program, program_bytes, m->data, data_bytes, record < records ? vector_of(record) : AVR_NO_OFFER);
+        if (!waited(m->answer, word, m->snapshot[AVR_RULE_BYTE] & AVR_RULE_CHIP)) printf("tick %u: no entry in %d ticks\n", tick, MOST_WAIT), exit(1);
         if (m->answer < 16) return;
         if (m->answer == 17) s->entered[record] = tick;
         if (m->answer == 22 || m->answer == 23) {
@@ -204,7 +233,7 @@ int main(int words, char **word) {
     }
     if (!try_last_ticks()) return printf("no entries at tick %u and behind it\n", LAST_TICK), 1;
     printf("%llu programs, %llu ticks, no difference; ", (unsigned long long)programs, (unsigned long long)ticks);
-    printf("%llu of %llu records entered, %llu of them late", (unsigned long long)counts[1], (unsigned long long)counts[0], (unsigned long long)counts[2]);
+    printf("%llu of %llu records entered, %llu of them late; the longest wait that 02 bounds is %u ticks", (unsigned long long)counts[1], (unsigned long long)counts[0], (unsigned long long)counts[2], longest_wait);
     tell_answers(ended);
     return 0;
 }

@@ -1,5 +1,5 @@
 //! The heat index of a day worked out again as it was in the field: the ticks at which the sample timer fired are a list, and the logger's image is run by it. A firing waits for its entry while
-//! the image has interrupts off, and while the handler of the one before is busy. The hottest hour has to be the one that is worked out when no timer fires.
+//! the image has interrupts off, and while the handler of the one before is busy; where neither is so, at most seven ticks (docs/CYCLES.md). The hottest hour has to be the one that is worked out when no timer fires.
 use avr_core::{list_of, run_schedule, Firing, Snapshot};
 use std::process::exit;
 
@@ -32,7 +32,7 @@ fn main() {
     for (fired, entered) in fired.iter().zip(rerun.entered) {
         match entered {
             0 => println!("fired at tick {fired}: not entered"),
-            tick => println!("fired at tick {fired}: entered at tick {tick}"),
+            tick => println!("fired at tick {fired}: entered at tick {tick}, {} later", tick - fired),
         }
     }
     println!("answer {} after {} ticks", rerun.answer, rerun.ticks);
