@@ -9,7 +9,6 @@ use native.Mathlib.Nat.{zero-add}
 use native.Mathlib.Omega.{arith}
 use lib.Dec.{eqb, ltb}
 use borrow.Author.Tests.{ltb-true, ltb-false, eqb-true, eqb-false}
-use Rattle.basis.specs.Bit.{one}
 use Rattle.basis.proofs.Choice.{clash, test}
 use Rattle.cores.specs.declared.Core.{Core}
 use Rattle.tick.specs.Tick.{Tick, numberOf, refuses, stops, tickOf}
@@ -21,7 +20,7 @@ use Rattle.run.specs.Lent.{offers}
 use Rattle.run.proofs.Ticks.{runs-are-ticks}
 use Rattle.run.proofs.Unroll.{step}
 use Rattle.schedule.specs.Laws.{afterBy, tickBy}
-use Rattle.latency.specs.Entry.{before, RunsEnterWithinEight}
+use Rattle.latency.specs.Entry.{RunsEnterWithinEight}
 use Rattle.latency.proofs.Ticks.{enters}
 use Rattle.latency.proofs.Entry.{always, goes-before, entry-within-eight}
 
