@@ -15,6 +15,7 @@ BEGIN {
     rules["RunsIn D r x′ x′"] = "runs-in"
     rules["Writes D r x′"] = "writes"
     rules["Prints D x r x′"] = "prints"
+    rules["Puts D D (page x′ r)"] = "puts"
     rules["Tells D r x′ x′"] = "tells"
     rules["TellsTicks D r x′ x′ x′"] = "tells-ticks"
     # where what the forms are written in is defined
@@ -27,7 +28,7 @@ BEGIN {
     homes["Runs"] = "Rattle.run.specs.Run"
     homes["TicksIn"] = homes["RunsIn"] = "Rattle.run.specs.Over"
     homes["Writes"] = "Rattle.snapshot.specs.Snapshot"
-    homes["Prints"] = "Rattle.tracing.specs.Trace"
+    homes["Prints"] = homes["Puts"] = homes["page"] = "Rattle.page.specs.Page"
     homes["Tells"] = homes["TellsTicks"] = "Rattle.host.specs.Host"
 }
 
@@ -69,7 +70,9 @@ function form(text, bound,    parts, count, at, found) {
     count = arguments(text, parts)
     if (parts[2] == "≡") return letter(parts[1], bound) " ≡ " definition(substr(text, index(text, " ≡ ") + length(" ≡ ")), bound)
     found = parts[1] " " definition(parts[2], bound)
-    for (at = 3; at <= count; at++) found = found " " letter(parts[at], bound)
+    at = 3
+    if (parts[1] == "Puts") found = found " " definition(parts[at++], bound)
+    for (; at <= count; at++) found = found " " letter(parts[at], bound)
     return found
 }
 
@@ -79,6 +82,8 @@ function letter(part, bound,    two, three) {
     if (part ~ /^[A-Za-z_][A-Za-z0-9_]*′$/) return "x′"
     if (sub(/^\(inPlace /, "", part) && sub(/\)$/, "", part) && split(part, two, " ") == 2)
         return "(inPlace " letter(two[1], bound) " " letter(two[2], bound) ")"
+    if (sub(/^\(page /, "", part) && sub(/\)$/, "", part) && split(part, two, " ") == 2)
+        return "(page " letter(two[1], bound) " " letter(two[2], bound) ")"
     if (sub(/^\(cored /, "", part) && sub(/\)$/, "", part) && split(part, three, " ") == 3)
         return "(cored " letter(three[1], bound) " " letter(three[2], bound) " " letter(three[3], bound) ")"
     return "?"
@@ -116,7 +121,7 @@ function clause(    text, bound, shape) {
 function pin(text, shape) {
     gsub(/[()]/, " ", text)
     pinned = pinned " " text " "
-    if (shape ~ /(^|[ (])r /) told = 1
+    if (shape ~ /(^|[ (])r[ )]/) told = 1
     if (index(", " laws ",", ", " rules[shape] ",") == 0) laws = laws (laws == "" ? "" : ", ") rules[shape]
 }
 

@@ -14,6 +14,7 @@ use Rattle.tick.specs.declared.Answer.{Answer}
 use Rattle.tick.specs.declared.Ticked.{Ticked}
 use Rattle.run.specs.declared.Ran.{Ran}
 use Rattle.run.specs.declared.over.Over.{Over}
+use Rattle.page.specs.Page.{Page}
 use Rattle.promises.specs.OneOutcome.{OneOutcome, One}
 
 equation : {A : Type 0} {d x y : A} → x ≡ d → y ≡ d → x ≡ y
@@ -80,5 +81,6 @@ one-outcome =
       tells-ticks =
           λ o x y e f. four (equation (e .number) (f .number)) (equation (e .snapshot) (f .snapshot)) (equation (e .bytes) (f .bytes)) (equation (e .ticks) (f .ticks));
       prints = λ t o x y e f. two (equation (e .count) (f .count)) (equation (e .bytes) (f .bytes));
+      puts = λ g t x y e f. let same = equation (e .is) (f .is) in two (ap (λ (h : Page). h .at) same) (ap (λ (h : Page). h .bytes) same);
       nothing = λ x y e f. refl;
     }

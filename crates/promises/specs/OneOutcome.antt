@@ -1,4 +1,4 @@
--- 01: "Prove that two outcomes meeting one contract are the same." Every public function's contract is one of these fourteen; docs/CONTRACTS.md says which is whose.
+-- 01: "Prove that two outcomes meeting one contract are the same." Every public function's contract is one of these fifteen; docs/CONTRACTS.md says which is whose.
 use mathlib.Core.Path.{_≡_}
 use mathlib.Core.Bool.{Bool}
 use mathlib.Core.List.{List}
@@ -18,7 +18,7 @@ use Rattle.run.specs.declared.over.Over.{Over}
 use Rattle.run.specs.Over.{TickIn, TicksIn, RunIn, RunsIn}
 use Rattle.snapshot.specs.Snapshot.{Written, Writes}
 use Rattle.host.specs.Host.{Told, Tells, ToldTicks, TellsTicks}
-use Rattle.tracing.specs.Trace.{Prints}
+use Rattle.page.specs.Page.{Page, page, Prints, Puts}
 
 -- whatever meets a contract is one outcome
 abbrev pub One : {A : Type 0} → (A → Type 0) → Type 0
@@ -44,5 +44,7 @@ pub record OneOutcome : Type 1 where
   pub tells : (t : Told) → One (λ (x : ℕ × List ℕ × List ℕ). Tells t (x .0) (x .1) (x .2))
   pub tells-ticks : (t : ToldTicks) → One (λ (x : ℕ × List ℕ × List ℕ × ℕ). TellsTicks t (x .0) (x .1) (x .2) (x .3))
   pub prints : (text before : List ℕ) → One (λ (x : ℕ × List ℕ). Prints text before (x .0) (x .1))
+  -- where a text ends, and the buffer
+  pub puts : (g : Page) (text : List ℕ) → One (λ (x : ℕ × List ℕ). Puts g text (page (x .1) (x .0)))
   -- a function that hands nothing back and is lent nothing to change, whose contract is a fact of its arguments
   pub nothing : One (λ (x : Unit {0}). Unit {0})

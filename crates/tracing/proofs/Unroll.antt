@@ -12,8 +12,9 @@ use Rattle.cores.specs.State.{freshOf}
 use Rattle.tick.specs.Tick.{refuses, stops, tickOf, Ticks}
 use Rattle.tick.specs.declared.Offer.the-variants.{Nothing}
 use Rattle.tick.specs.declared.Ticked.{Ticked}
-use Rattle.tracing.specs.Trace.{Page, withText, Puts, lineOf, linesOf, zeros, ticksOf}
-use Rattle.tracing.proofs.Laid.{none, in-order}
+use Rattle.page.specs.Page.{Page, withText, Puts}
+use Rattle.tracing.specs.Trace.{lineOf, linesOf, zeros, ticksOf}
+use Rattle.page.proofs.Laid.{none, in-order}
 
 -- the lines of a trace that is not begun
 pub begun : (sp b : ℕ) (p : List ℕ) (k : Core) → k ≡ freshOf sp → ticksOf sp b p ≡ linesOf (b - 0) 1 k p (replicate 16384 0)

@@ -15,7 +15,8 @@ use Rattle.cores.specs.State.{freshOf}
 use Rattle.tick.specs.Tick.{refuses, stops, tickOf}
 use Rattle.tick.specs.declared.Offer.the-variants.{Nothing}
 use Rattle.tracing.specs.declared.job.Job.the-variants.{Bad, Trace}
-use Rattle.tracing.specs.Trace.{wordIn, lineOf, linesOf, zeros, textOf, traceOf, Prints, WholeTrace}
+use Rattle.page.specs.Page.{Prints}
+use Rattle.tracing.specs.Trace.{wordIn, lineOf, linesOf, zeros, textOf, traceOf, WholeTrace}
 use Rattle.tracing.proofs.Short.{line-short}
 
 more : (stop : Bool) (line rest : List ℕ) (b : ℕ) → length line ≤ 36 → length rest ≤ b * 36

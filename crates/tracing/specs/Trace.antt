@@ -2,12 +2,13 @@
 use mathlib.Core.Path.{_≡_}
 use mathlib.Core.Bool.{_||_}
 use mathlib.Core.List.{List, [], _∷_, _++_}
-use Prim.Native.Nat.{ℕ, zero, suc, _+_, _*_, _/_, _%_, _≤_, min}
+use Prim.Native.Nat.{ℕ, zero, suc, _+_, _*_, _/_, _%_, _≤_}
 use lib.Dec.{ltb, leb}
-use lib.ListN.{getD, set, take, drop, length, replicate}
+use lib.ListN.{getD, take, drop, length, replicate}
 use Rattle.basis.specs.Pick.{pick}
 use Rattle.basis.specs.Bytes.{Bytes}
 use Rattle.basis.specs.Text.{text, line, hexDigit}
+use Rattle.page.specs.Page.{Prints}
 use Rattle.cores.specs.declared.Core.{Core}
 use Rattle.cores.specs.State.{freshOf}
 use Rattle.tick.specs.Tick.{refuses, stops, tickOf}
@@ -91,11 +92,6 @@ textOf (Trace size sp budget) s = ticksOf sp budget (take size (drop 6 s))
 abbrev pub traceOf : List ℕ → List ℕ
 traceOf s = textOf (jobOf s) s
 
--- a text in a buffer: as much of it as fits, n bytes, and behind them what the buffer held
-pub record Prints (t before : List ℕ) (n : ℕ) (after : List ℕ) : Type 0 where
-  pub count : n ≡ min (length t) (length before)
-  pub bytes : after ≡ take (length before) t ++ drop (length t) before
-
 -- 01's example, proved in proofs/Example.antt
 abbrev pub Example : Type 0
 Example =
@@ -109,23 +105,3 @@ WholeTrace = (s d o : List ℕ) (n : ℕ) → Bytes s → 65535 * 36 ≤ length 
 -- the theorem, proved in proofs/Cut.antt: the program reads at most 6 and 49,152 bytes, and prints the trace of the whole input
 abbrev pub CutTrace : Type 0
 CutTrace = (s : List ℕ) → traceOf (take 49158 s) ≡ traceOf s
-
--- ---- the code's buffer, and where the next byte goes: for the contracts of private functions, so that nobody has to believe it
-pub record Page : Type 0 where
-  pub bytes : List ℕ
-  pub at : ℕ
-
-abbrev pub page : List ℕ → ℕ → Page
-page s n = record { bytes = s; at = n }
-
--- one byte more, which is dropped at the buffer's end
-abbrev pub withByte : Page → ℕ → Page
-withByte g b = page (set (g .bytes) (g .at) b) (pick (ltb (g .at) (length (g .bytes))) (g .at + 1) (g .at))
-
-unfoldable pub withText : Page → List ℕ → Page
-withText g [] = g
-withText g (b ∷ t) = withText (withByte g b) t
-
--- a page, a text, and the page with it
-pub record Puts (g : Page) (t : List ℕ) (h : Page) : Type 0 where
-  pub is : h ≡ withText g t

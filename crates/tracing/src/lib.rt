@@ -1,11 +1,11 @@
 // What `trace` prints for its input: a line for each tick.
 use job::Job;
-ghost use Rattle.tracing.specs.Trace.{traceOf, Prints};
+ghost use Rattle.page.specs.Page.{Prints};
+ghost use Rattle.tracing.specs.Trace.{traceOf};
 
 mod job;
 mod line;
 mod lines;
-mod page;
 
 // The text into `out`, as far as it fits; how many bytes that is.
 pub fn trace(input: &[u8], out: &mut [u8]) -> usize

@@ -1,12 +1,13 @@
 // A tick's line, field by field into the buffer.
-use crate::page::put_byte;
-use crate::page::put_text;
 use cores::Core;
+use page::put_byte;
+use page::put_text;
 use tick::Answer;
 ghost use mathlib.Core.Path.{_≡_};
 ghost use mathlib.Core.List.{[], _∷_};
 ghost use Rattle.basis.specs.Pick.{pick};
-ghost use Rattle.tracing.specs.Trace.{page, Puts, hex2, hex4, decimal, wordOf, coreOf, lineOf};
+ghost use Rattle.page.specs.Page.{page, Puts};
+ghost use Rattle.tracing.specs.Trace.{hex2, hex4, decimal, wordOf, coreOf, lineOf};
 
 fn put_hex2(out: &mut [u8], at: usize, x: u8) -> usize
     ensures { λ n. ⌜ Puts (page (now (out .entry)) at) (hex2 x) (page (now (out .exit)) n) ⌝ }

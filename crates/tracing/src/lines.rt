@@ -2,7 +2,8 @@
 use crate::line::put_line;
 use cores::Core;
 use tick::Offer;
-ghost use Rattle.tracing.specs.Trace.{page, Puts, ticksOf};
+ghost use Rattle.page.specs.Page.{page, Puts};
+ghost use Rattle.tracing.specs.Trace.{ticksOf};
 
 // From the buffer's start on; where the last line ends.
 pub fn put_lines(out: &mut [u8], program: &[u8], sp: u16, budget: u16) -> usize

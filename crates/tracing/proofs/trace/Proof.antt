@@ -12,8 +12,9 @@ use borrow.Author.Tests.{ltb-false}
 use Rattle.basis.specs.Pick.{pick}
 use Rattle.tracing.specs.declared.job.Job.{Job}
 use Rattle.tracing.specs.declared.job.Job.the-variants.{Bad, Trace}
-use Rattle.tracing.specs.Trace.{wordIn, jobOf, textOf, traceOf, page, Puts, Prints}
-use Rattle.tracing.proofs.Laid.{prints}
+use Rattle.page.specs.Page.{page, Puts, Prints}
+use Rattle.tracing.specs.Trace.{wordIn, jobOf, textOf, traceOf}
+use Rattle.page.proofs.Laid.{prints}
 use Rattle.tracing.proofs.trace.Statement.{statement}
 use Rattle.tracing.proofs.trace.Tie as tie
 

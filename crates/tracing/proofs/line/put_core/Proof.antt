@@ -1,7 +1,7 @@
 -- `put_core`: PC, busy, SREG and SP, one space apart.
 -- Assumes nothing.
 use borrow.Author.Needs.{needs}
-use Rattle.tracing.proofs.Laid.{both}
+use Rattle.page.proofs.Laid.{both}
 use Rattle.tracing.proofs.line.put_core.Statement.{statement}
 use Rattle.tracing.proofs.line.put_core.Tie as tie
 

@@ -1,7 +1,7 @@
 -- `put_decimal`: a digit each.
 -- Assumes nothing.
 use borrow.Author.Needs.{needs}
-use Rattle.tracing.proofs.Laid.{both}
+use Rattle.page.proofs.Laid.{both}
 use Rattle.tracing.proofs.line.put_decimal.Statement.{statement}
 use Rattle.tracing.proofs.line.put_decimal.Tie as tie
 

@@ -2,7 +2,7 @@
 -- Assumes nothing.
 use mathlib.Core.Path.{sym}
 use borrow.Author.Needs.{needs}
-use Rattle.tracing.proofs.Laid.{both}
+use Rattle.page.proofs.Laid.{both}
 use Rattle.tracing.proofs.line.put_hex2.Statement.{statement}
 use Rattle.tracing.proofs.line.put_hex2.Tie as tie
 

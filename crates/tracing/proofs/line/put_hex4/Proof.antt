@@ -1,7 +1,7 @@
 -- `put_hex4`: a word as four digits.
 -- Assumes nothing.
 use borrow.Author.Needs.{needs}
-use Rattle.tracing.proofs.Laid.{both}
+use Rattle.page.proofs.Laid.{both}
 use Rattle.tracing.proofs.line.put_hex4.Statement.{statement}
 use Rattle.tracing.proofs.line.put_hex4.Tie as tie
 

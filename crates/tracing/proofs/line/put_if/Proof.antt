@@ -1,7 +1,7 @@
 -- `put_if`: the byte or nothing.
 -- Assumes nothing.
 use borrow.Author.Needs.{needs}
-use Rattle.tracing.proofs.Laid.{none}
+use Rattle.page.proofs.Laid.{none}
 use Rattle.tracing.proofs.line.put_if.Statement.{statement}
 use Rattle.tracing.proofs.line.put_if.Tie as tie
 

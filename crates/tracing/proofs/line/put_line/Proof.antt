@@ -1,7 +1,7 @@
 -- `put_line`: the fields one behind the other.
 -- Assumes nothing.
 use borrow.Author.Needs.{needs}
-use Rattle.tracing.proofs.Laid.{both}
+use Rattle.page.proofs.Laid.{both}
 use Rattle.tracing.proofs.line.put_line.Statement.{statement}
 use Rattle.tracing.proofs.line.put_line.Tie as tie
 

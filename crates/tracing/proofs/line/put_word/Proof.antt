@@ -1,7 +1,7 @@
 -- `put_word`: the word of each answer.
 -- Assumes nothing.
 use borrow.Author.Needs.{needs}
-use Rattle.tracing.proofs.Laid.{both}
+use Rattle.page.proofs.Laid.{both}
 use Rattle.tracing.proofs.line.put_word.Statement.{statement}
 use Rattle.tracing.proofs.line.put_word.Tie as tie
 

@@ -4,7 +4,8 @@ use mathlib.Core.Path.{_≡_, sym}
 use Prim.Native.Nat.{_≤_, _+_, _-_}
 use lib.ListN.{length}
 use borrow.Author.Needs.{needs}
-use Rattle.tracing.specs.Trace.{page, withText, linesOf, ticksOf}
+use Rattle.page.specs.Page.{page, withText}
+use Rattle.tracing.specs.Trace.{linesOf, ticksOf}
 use Rattle.tracing.proofs.Unroll.{begun, spent, ends, goes-on}
 use Rattle.tracing.proofs.lines.put_lines.Statement.{statement}
 use Rattle.tracing.proofs.lines.put_lines.Tie as tie

@@ -6,10 +6,10 @@ use native.Mathlib.Numerals.{add-one}
 use lib.ListN.{length, take}
 use lib.Seq.{take-all, take-suc}
 use borrow.Author.Needs.{needs}
-use Rattle.tracing.specs.Trace.{page, Puts}
-use Rattle.tracing.proofs.Laid.{none, both}
-use Rattle.tracing.proofs.page.put_text.Statement.{statement}
-use Rattle.tracing.proofs.page.put_text.Tie as tie
+use Rattle.page.specs.Page.{page, Puts}
+use Rattle.page.proofs.Laid.{none, both}
+use Rattle.page.proofs.put_text.Statement.{statement}
+use Rattle.page.proofs.put_text.Tie as tie
 
 abbrev Inv-loop : tie.InvT-loop
 Inv-loop out₀ at text end₀ i₀ out end i = (i ≤ length text) × ((length out ≡ length out₀) × Puts (page out₀ at) (take i text) (page out end))

@@ -3,9 +3,9 @@
 use lib.Seq.{set-out}
 use borrow.Author.Needs.{needs}
 use borrow.Author.Tests.{lt-ltb, le-ltb}
-use Rattle.tracing.proofs.Laid.{one-byte}
-use Rattle.tracing.proofs.page.put_byte.Statement.{statement}
-use Rattle.tracing.proofs.page.put_byte.Tie as tie
+use Rattle.page.proofs.Laid.{one-byte}
+use Rattle.page.proofs.put_byte.Statement.{statement}
+use Rattle.page.proofs.put_byte.Tie as tie
 
 pub put-byte-spec : {M : Type 1} → statement M
 put-byte-spec =

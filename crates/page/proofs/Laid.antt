@@ -9,7 +9,7 @@ use lib.Dec.{leb·suc-suc}
 use lib.ListN.{length, take, drop, length-take}
 use borrow.Author.Tests.{lt-ltb}
 use Rattle.basis.specs.Pick.{pick}
-use Rattle.tracing.specs.Trace.{Page, page, withByte, withText, Puts, Prints}
+use Rattle.page.specs.Page.{Page, page, withByte, withText, Puts, Prints}
 
 pub one-byte : (g : Page) (b : ℕ) → withText g (b ∷ []) ≡ withByte g b
 unfolding withText

@@ -1,6 +1,6 @@
 // A lent buffer that a text is put into, from `at` on; what does not fit is dropped. Each hands back where the text ends.
 ghost use mathlib.Core.List.{[], _∷_};
-ghost use Rattle.tracing.specs.Trace.{page, Puts};
+ghost use Rattle.page.specs.Page.{page, Puts};
 
 pub fn put_byte(out: &mut [u8], at: usize, b: u8) -> usize
     ensures { λ n. ⌜ Puts (page (now (out .entry)) at) (b ∷ []) (page (now (out .exit)) n) ⌝ }

@@ -1,0 +1,2 @@
+-- `Laid`: texts one behind the other, which the proofs of the crates above cite.
+pub mod Laid
