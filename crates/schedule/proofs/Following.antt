@@ -23,8 +23,8 @@ use Rattle.schedule.proofs.Serving.{Quiet, ran-read, few, all-done, goe
 abbrev pub behind : List ℕ → Scheduled → Scheduled
 behind ns x = record { run = x .run; entries = ns ++ x .entries }
 
--- where `follow` stands: i records of the list are entered, and `done` of b ticks done; k are the numbers past the last record
-pub record Stands (s₀ p m₀ l : List ℕ) (b : ℕ) (k s m e : List ℕ) (i done : ℕ) : Type 0 where
+-- where `follow` stands: it began with `from` of b ticks done, i records of the list are entered, and `done` ticks done; k are the numbers past the last record
+pub record Stands (s₀ p m₀ l : List ℕ) (from b : ℕ) (k s m e : List ℕ) (i done : ℕ) : Type 0 where
   pub few : i ≤ length l / 5
   pub low : done ≤ b
   pub read : readOf s .refusal ≡ 0
@@ -35,16 +35,15 @@ pub record Stands (s₀ p m₀ l : List ℕ) (b : ℕ) (k s m e : List ℕ) (i d
   pub before : List ℕ
   pub many : length before ≡ i
   pub numbers : e ≡ before ++ (replicate (length l / 5 - i) 0 ++ k)
-  pub rest : scheduled b 0 (saidBy s₀) p m₀ (recordsOf l) ≡ behind before (restFrom b done s p m (recordsFrom l i (length l / 5 - i)))
+  pub rest : restFrom b from s₀ p m₀ (recordsOf l) ≡ behind before (restFrom b done s p m (recordsFrom l i (length l / 5 - i)))
 
-pub stands-first : (s p m l : List ℕ) (b : ℕ) (k e : List ℕ) → readOf s .refusal ≡ 0 → Bytes s → Bytes m → rising 0 (recordsOf l) ≡ true
-    → e ≡ replicate (length l / 5) 0 ++ k → Stands s p m l b k s m e 0 0
-stands-first s p m l b k e h bs bm r c =
-    let ticks : b - 0 ≡ b = omega arith in
+pub stands-first : (s p m l : List ℕ) (from b : ℕ) (k e : List ℕ) → readOf s .refusal ≡ 0 → from ≤ b → Bytes s → Bytes m → rising 0 (recordsOf l) ≡ true
+    → e ≡ replicate (length l / 5) 0 ++ k → Stands s p m l from b k s m e 0 from
+stands-first s p m l from b k e h low bs bm r c =
     let records : length l / 5 - 0 ≡ length l / 5 = omega arith in
     record {
       few = omega arith;
-      low = omega arith;
+      low = low;
       read = h;
       snapshot-bytes = bs;
       data-bytes = bm;
@@ -53,7 +52,7 @@ stands-first s p m l b k e h bs bm r c =
       before = [];
       many = refl;
       numbers = rw records c;
-      rest = rw (ticks, records) refl;
+      rest = rw records refl;
     }
 
 joined : (a b c : List ℕ) → (a ++ b) ++ c ≡ a ++ (b ++ c)
@@ -73,7 +72,7 @@ both true y h = h
 both false y h = clash (sym h)
 
 -- ---- a record more
-module _ {s₀ p m₀ l : List ℕ} {b : ℕ} {k s m e : List ℕ} {i done : ℕ} (z : Stands s₀ p m₀ l b k s m e i done) (more : i < length l / 5) where
+module _ {s₀ p m₀ l : List ℕ} {from b : ℕ} {k s m e : List ℕ} {i done : ℕ} (z : Stands s₀ p m₀ l from b k s m e i done) (more : i < length l / 5) where
   abbrev d : Record
   d = recordAt l i
 
@@ -87,14 +86,14 @@ module _ {s₀ p m₀ l : List ℕ} {b : ℕ} {k s m e : List ℕ} {i done : ℕ
   rises-on = both (ltb (z .last) (d .tick)) (rising (d .tick) ds) (ap (λ (n : ℕ). rising (z .last) (recordsFrom l i n)) (sym left) ∙ z .rises)
 
   module _ (a : Over) {s' m' : List ℕ} (w : Serves s p m d done b a s' m') where
-    served : scheduled b 0 (saidBy s₀) p m₀ (recordsOf l) ≡ behind (z .before) (restFrom b done s p m (d ∷ ds))
+    served : restFrom b from s₀ p m₀ (recordsOf l) ≡ behind (z .before) (restFrom b done s p m (d ∷ ds))
     served = z .rest ∙ ap (λ (n : ℕ). behind (z .before) (restFrom b done s p m (recordsFrom l i n))) left
 
     zeros : e ≡ z .before ++ (0 ∷ (replicate (length l / 5 - suc i) 0 ++ k))
     zeros = z .numbers ∙ ap (λ (n : ℕ). z .before ++ (replicate n 0 ++ k)) left
 
     -- it was entered
-    pub stands-next : a .answer ≡ 17 → Bytes s' → Bytes m' → Stands s₀ p m₀ l b k s' m' (set e i (a .ticks)) (i + 1) (a .ticks)
+    pub stands-next : a .answer ≡ 17 → Bytes s' → Bytes m' → Stands s₀ p m₀ l from b k s' m' (set e i (a .ticks)) (i + 1) (a .ticks)
     stands-next f bs bm =
         let one : i + 1 ≡ suc i = omega arith in
         let ns = z .before in
@@ -117,17 +116,17 @@ module _ {s₀ p m₀ l : List ℕ} {b : ℕ} {k s m e : List ℕ} {i done : ℕ
         }
 
     -- the run ended before
-    pub follows-ended : (e₀ : List ℕ) → k ≡ drop (length l / 5) e₀ → (x : Over) → (a .answer ≡ 17 → ⊥) → x .answer ≡ a .answer → x .ticks ≡ a .ticks → Follows s₀ p m₀ l b e₀ x s' m' e
+    pub follows-ended : (e₀ : List ℕ) → k ≡ drop (length l / 5) e₀ → (x : Over) → (a .answer ≡ 17 → ⊥) → x .answer ≡ a .answer → x .ticks ≡ a .ticks → Follows s₀ p m₀ l from b e₀ x s' m' e
     follows-ended e₀ kept x f g h =
         let ns = z .before in
         let rest : List ℕ = replicate (length l / 5 - suc i) 0 in
         let over : restFrom b done s p m (d ∷ ds) ≡ stopped (saidRun a s' m') (d ∷ ds) = w .rest ds rises-on ∙ rw (ne-eqb (a .answer) 17 f) in
-        let whole : scheduled b 0 (saidBy s₀) p m₀ (recordsOf l) ≡ behind ns (stopped (saidRun a s' m') (d ∷ ds)) = served ∙ ap (behind ns) over in
+        let whole : restFrom b from s₀ p m₀ (recordsOf l) ≡ behind ns (stopped (saidRun a s' m') (d ∷ ds)) = served ∙ ap (behind ns) over in
         let run : saidRun x s' m' ≡ saidRun a s' m' = cc (g, h) in
-        let entries : scheduled b 0 (saidBy s₀) p m₀ (recordsOf l) .entries ≡ ns ++ (0 ∷ rest) =
+        let entries : restFrom b from s₀ p m₀ (recordsOf l) .entries ≡ ns ++ (0 ∷ rest) =
         ap (λ y. y .entries) whole ∙ ap (λ (n : ℕ). let none : List ℕ = replicate n 0 in ns ++ (0 ∷ none)) (many-records l (suc i) (length l / 5 - suc i)) in
         let long : length (ns ++ (0 ∷ rest)) ≡ length l / 5 = rw (length-append, length-replicate) (omega (arith, z .many)) in
-        let numbers : numbersOf (scheduled b 0 (saidBy s₀) p m₀ (recordsOf l) .entries) e₀ ≡ (ns ++ (0 ∷ rest)) ++ drop (length l / 5) e₀ =
+        let numbers : numbersOf (restFrom b from s₀ p m₀ (recordsOf l) .entries) e₀ ≡ (ns ++ (0 ∷ rest)) ++ drop (length l / 5) e₀ =
         ap (λ (y : List ℕ). numbersOf y e₀) entries ∙ ap (λ (n : ℕ). (ns ++ (0 ∷ rest)) ++ drop n e₀) long in
         record {
           read = w .read;
@@ -136,7 +135,7 @@ module _ {s₀ p m₀ l : List ℕ} {b : ℕ} {k s m e : List ℕ} {i done : ℕ
         }
 
 -- ---- no record is left, and what is left of the budget is run with no offer
-module _ {s₀ p m₀ l : List ℕ} {b : ℕ} {k s m e : List ℕ} {i done : ℕ} (z : Stands s₀ p m₀ l b k s m e i done) (end : length l / 5 ≤ i) (bp : Bytes p)
+module _ {s₀ p m₀ l : List ℕ} {from b : ℕ} {k s m e : List ℕ} {i done : ℕ} (z : Stands s₀ p m₀ l from b k s m e i done) (end : length l / 5 ≤ i) (bp : Bytes p)
     (a : Over) (s' m' : List ℕ) (w : RunsIn (runIn s p m Nothing (b - done)) a s' m') where
   abbrev quiet : Quiet
   quiet =
@@ -173,14 +172,14 @@ module _ {s₀ p m₀ l : List ℕ} {b : ℕ} {k s m e : List ℕ} {i done : ℕ
         test (eqb (a .answer) 24) (λ f. spent (eqb-true (a .answer) 24 f))
         λ f. ends-there quiet b done [] fits (λ _ _ _. refl) x (eqb-false (a .answer) 24 f) g h
 
-    pub follows-last : (e₀ : List ℕ) → k ≡ drop (length l / 5) e₀ → Follows s₀ p m₀ l b e₀ x s' m' e
+    pub follows-last : (e₀ : List ℕ) → k ≡ drop (length l / 5) e₀ → Follows s₀ p m₀ l from b e₀ x s' m' e
     follows-last e₀ kept =
         let ns = z .before in
         let none : length l / 5 - i ≡ 0 = omega arith in
-        let whole : scheduled b 0 (saidBy s₀) p m₀ (recordsOf l) ≡ behind ns (stopped (saidRun x s' m') []) =
+        let whole : restFrom b from s₀ p m₀ (recordsOf l) ≡ behind ns (stopped (saidRun x s' m') []) =
         z .rest ∙ ap (λ (n : ℕ). behind ns (restFrom b done s p m (recordsFrom l i n))) none ∙ ap (behind ns) rest in
         let long : length (ns ++ []) ≡ length l / 5 = rw length-append (omega (arith, z .many, z .few, end)) in
-        let numbers : numbersOf (scheduled b 0 (saidBy s₀) p m₀ (recordsOf l) .entries) e₀ ≡ (ns ++ []) ++ drop (length l / 5) e₀ =
+        let numbers : numbersOf (restFrom b from s₀ p m₀ (recordsOf l) .entries) e₀ ≡ (ns ++ []) ++ drop (length l / 5) e₀ =
         ap (λ y. numbersOf (y .entries) e₀) whole ∙ ap (λ (n : ℕ). (ns ++ []) ++ drop n e₀) long in
         record {
           read = ap (λ y. y .refusal) (ran-read quiet);

@@ -4,7 +4,8 @@ use mathlib.Core.Path.{_≡_, refl, sym, ap, _∙_}
 use mathlib.Core.Logic.{inl, inr}
 use mathlib.Core.Bool.{Bool, true, false, not, _&&_}
 use mathlib.Core.List.{List, _++_}
-use Prim.Native.Nat.{ℕ, zero, suc, _/_, _%_, _<_}
+use Prim.Native.Nat.{ℕ, zero, suc, _-_, _/_, _%_, _<_, max}
+use native.Mathlib.Nat.{sub-zero}
 use native.Mathlib.Omega.{arith}
 use lib.Dec.{eqb, leb, ltb}
 use lib.ListN.{drop, length, replicate, length-replicate}
@@ -27,37 +28,37 @@ use Rattle.run.specs.Over as over
 use Rattle.run.specs.declared.over.Over.{Over}
 use Rattle.run.proofs.Calls.{run-in-refused, check-told}
 use Rattle.run.proofs.Through.{too-busy}
-use Rattle.schedule.specs.Schedule.{Record, recordsOf, rising, refusalOf, offered, Scheduled, stopped, scheduled, numbersOf, scheduleOf, refusalIn, scheduleIn, ofCheck}
-use Rattle.schedule.specs.Follow.{Follows}
+use Rattle.schedule.specs.Schedule.{Record, recordsOf, rising, refusalOf, offered, Scheduled, stopped, scheduled, numbersOf, scheduleOf, refusalIn, scheduleIn, scheduleFrom, ofCheck}
+use Rattle.schedule.specs.Follow.{restFrom, Follows}
 use Rattle.schedule.proofs.Steps.{stepBy, one-tick}
 use Rattle.schedule.proofs.Following.{many-records}
 
 -- ---- over a snapshot
-module _ (s p m l : List ℕ) (b : ℕ) (e : List ℕ) where
-  abbrev x : Scheduled
-  x = scheduled b 0 (saidBy s) p m (recordsOf l)
-
+module _ (s p m l : List ℕ) (done b : ℕ) (e : List ℕ) where
   abbrev Given : Over → List ℕ → List ℕ → List ℕ → Type 0
-  Given a s' m' e' = RunsIn (scheduleIn s p m l b e .run) a s' m' × (e' ≡ scheduleIn s p m l b e .numbers)
+  Given a s' m' e' = RunsIn (scheduleFrom s p m l done (b - done) e .run) a s' m' × (e' ≡ scheduleFrom s p m l done (b - done) e .numbers)
 
-  pub in-refused : (n : ℕ) → refusalIn s l (length e) ≡ n → (n ≡ 0 → ⊥) → (a : Over) → a .answer ≡ n → a .ticks ≡ 0 → Given a s m e
+  pub in-refused : (n : ℕ) → refusalIn s l (length e) ≡ n → (n ≡ 0 → ⊥) → (a : Over) → a .answer ≡ n → a .ticks ≡ done → Given a s m e
   in-refused n g h a f c =
       let no = ne-eqb (refusalIn s l (length e)) 0 (λ z. h (sym g ∙ z)) in
       rw no (record { answer = f ∙ sym g; count = c; snapshot = refl; bytes = refl }, refl)
 
-  pub in-passed : refusalIn s l (length e) ≡ 0 → length s ≡ 38 → (a : Over) {s' m' e' : List ℕ} → Bytes s' → Follows s p m l b e a s' m' e' → Given a s' m' e'
-  in-passed g long a {s'} {m'} bs w =
+  -- `follow` is given a budget that is no less than what is done
+  pub in-passed : refusalIn s l (length e) ≡ 0 → length s ≡ 38 → (a : Over) (u : ℕ) {s' m' e' : List ℕ} → u ≡ max b done → Bytes s' → Follows s p m l done u e a s' m' e' → Given a s' m' e'
+  in-passed g long a u {s'} {m'} is bs w =
       let yes = eq-eqb (refusalIn s l (length e)) 0 g in
-      let core = ap (λ r. r .core) (w .run) in
+      let left : u - done ≡ b - done = omega (arith, is) in
+      let same : restFrom u done s p m (recordsOf l) ≡ restFrom b done s p m (recordsOf l) = ap (λ (n : ℕ). scheduled n done (saidBy s) p m (recordsOf l)) left in
+      let run = w .run ∙ ap (λ x. x .run) same in
       let back = ap (λ r. r .bytes) (writing-undoes-reading s' s bs (w .read) long) in
       rw yes (
         record {
-          answer = ap (λ r. r .answer) (w .run);
-          count = ap (λ r. r .count) (w .run);
-          snapshot = sym back ∙ ap (λ (k : Core). writeOf k s .bytes) core;
-          bytes = ap (λ r. r .bytes) (w .run);
+          answer = ap (λ r. r .answer) run;
+          count = ap (λ r. r .count) run;
+          snapshot = sym back ∙ ap (λ r. writeOf (r .core) s .bytes) run;
+          bytes = ap (λ r. r .bytes) run;
         },
-        w .numbers,
+        w .numbers ∙ ap (λ x. numbersOf (x .entries) e) same,
       )
 
 -- ---- of a core
@@ -99,9 +100,9 @@ module _ (b : ℕ) (k : Core) (p m l e : List ℕ) where
 
   -- through its snapshot
   pub of-followed : refusalOf l (length e) ≡ 0 → (s : List ℕ) → readOf s ≡ record { refusal = 0; core = k } → (a : Over) (z : SnapshotRead) {s' m' e' : List ℕ} {r : Ran}
-      → Follows s p m l b e a s' m' e' → z ≡ readOf s' → r ≡ record { answer = a .answer; ticks = a .ticks; core = z .core } → Gives r m' e'
+      → Follows s p m l 0 b e a s' m' e' → z ≡ readOf s' → r ≡ record { answer = a .answer; ticks = a .ticks; core = z .core } → Gives r m' e'
   of-followed g s f a z {s'} {m'} w q c =
-      let same : scheduled b 0 (saidBy s) p m (recordsOf l) ≡ y = ap (λ r. scheduled b 0 (r .core) p m (recordsOf l)) f in
+      let same : restFrom b 0 s p m (recordsOf l) ≡ y = rw sub-zero (ap (λ r. scheduled b 0 (r .core) p m (recordsOf l)) f) in
       of-passed g (ap (λ r. record { answer = r .answer; count = r .ticks; core = r .core; bytes = m' }) c
       ∙ ap (λ r. record { answer = a .answer; count = a .ticks; core = r .core; bytes = m' }) q ∙ w .run ∙ ap (λ t. t .run) same) (w .numbers ∙ ap (λ t. numbersOf (t .entries) e) same)
 

@@ -39,7 +39,7 @@ abbrev pub Waits : List ℕ → List ℕ → List ℕ → ℕ → ℕ → ℕ �
 Waits s p m vector done b a s' m' = (tick : ℕ) → (done < b → tick ≤ suc done) → Serves s p m (record { tick = tick; vector = vector }) done b a s' m'
 
 -- the whole list
-pub record Follows (s p m l : List ℕ) (b : ℕ) (e : List ℕ) (a : Over) (s' m' e' : List ℕ) : Type 0 where
+pub record Follows (s p m l : List ℕ) (done b : ℕ) (e : List ℕ) (a : Over) (s' m' e' : List ℕ) : Type 0 where
   pub read : readOf s' .refusal ≡ 0
-  pub run : saidRun a s' m' ≡ scheduled b 0 (saidBy s) p m (recordsOf l) .run
-  pub numbers : e' ≡ numbersOf (scheduled b 0 (saidBy s) p m (recordsOf l) .entries) e
+  pub run : saidRun a s' m' ≡ restFrom b done s p m (recordsOf l) .run
+  pub numbers : e' ≡ numbersOf (restFrom b done s p m (recordsOf l) .entries) e

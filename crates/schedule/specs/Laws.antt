@@ -4,7 +4,7 @@
 use mathlib.Core.Path.{_≡_}
 use mathlib.Core.Logic.{_⊎_}
 use mathlib.Core.Bool.{Bool, true, false, not, _&&_}
-use mathlib.Core.List.{List, [], _∷_}
+use mathlib.Core.List.{List, [], _∷_, _++_}
 use Prim.Native.Nat.{ℕ, zero, suc, _+_, _/_, _≤_, _<_}
 use lib.Dec.{eqb, leb, ltb}
 use lib.ListN.{getD, drop, length}
@@ -125,3 +125,22 @@ EmptyListIsARun = (b : ℕ) (k : Core) (p m e : List ℕ) → scheduleOf b k p m
 abbrev pub SameScheduleUnderLargerBudget : Type 0
 SameScheduleUnderLargerBudget =
     (b larger : ℕ) → b ≤ larger → (k : Core) (p m l e : List ℕ) → (scheduleOf b k p m l e .run .answer ≡ 24 → ⊥) → scheduleOf larger k p m l e ≡ scheduleOf b k p m l e
+
+-- ---- a run in steps
+-- the numbers of the records that were entered, which come first
+unfoldable pub enteredOf : List ℕ → List ℕ
+enteredOf [] = []
+enteredOf (n ∷ e) = pick (eqb n 0) [] (n ∷ enteredOf e)
+
+-- a scheduled run taken up where x ended, with the records that x did not enter: all its numbers
+abbrev pub takenUp : Scheduled → ℕ → List ℕ → List Record → Scheduled
+takenUp x left p ds =
+    let e = enteredOf (x .entries) in
+    let y = scheduled left (x .run .count) (x .run .core) p (x .run .bytes) (drop (length e) ds) in
+    record { run = y .run; entries = e ++ y .entries }
+
+-- the theorem, proved in proofs/InSteps.antt: taken up where its budget had ended, it is the run that the whole budget gives
+abbrev pub RunsInSteps : Type 0
+RunsInSteps =
+    (j left done : ℕ) (k : Core) (p m : List ℕ) (ds : List Record) → scheduled j done k p m ds .run .answer ≡ 24
+    → scheduled (j + left) done k p m ds ≡ takenUp (scheduled j done k p m ds) left p ds

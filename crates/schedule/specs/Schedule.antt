@@ -107,14 +107,18 @@ pub record ScheduleIn : Type 0 where
   pub run : RunIn
   pub numbers : List ℕ
 
-abbrev pub scheduleIn : List ℕ → List ℕ → List ℕ → List ℕ → ℕ → List ℕ → ScheduleIn
-scheduleIn s p m l budget e =
-    let x = scheduled budget 0 (saidBy s) p m (recordsOf l) in
+-- where `done` ticks of the run are done already, so many are left, and l has the records not yet entered
+abbrev pub scheduleFrom : List ℕ → List ℕ → List ℕ → List ℕ → ℕ → ℕ → List ℕ → ScheduleIn
+scheduleFrom s p m l done left e =
+    let x = scheduled left done (saidBy s) p m (recordsOf l) in
     let r = x .run in
     let refusal = refusalIn s l (length e) in
     pick (eqb refusal 0)
     (record { run = record { answer = r .answer; count = r .count; snapshot = writeOf (r .core) s .bytes; bytes = r .bytes }; numbers = numbersOf (x .entries) e })
-    (record { run = record { answer = refusal; count = 0; snapshot = s; bytes = m }; numbers = e })
+    (record { run = record { answer = refusal; count = done; snapshot = s; bytes = m }; numbers = e })
+
+abbrev pub scheduleIn : List ℕ → List ℕ → List ℕ → List ℕ → ℕ → List ℕ → ScheduleIn
+scheduleIn s p m l budget e = scheduleFrom s p m l 0 budget e
 
 -- the numbers of the checks, 7 to 9 and 30 to 32, which no run answers
 abbrev pub ofCheck : ℕ → Bool

@@ -98,22 +98,23 @@ pub(crate) fn clear(entered: &mut [u32], records: usize)
     }
 }
 
-// The whole list.
+// The whole list, in a run that has done so many of its ticks.
 pub(crate) fn follow(
     snapshot: &mut [u8],
     program: &[u8],
     data: &mut [u8],
     list: &[u8],
+    from: u32,
     budget: u32,
     entered: &mut [u32],
 ) -> Over
-    requires { ⌜ (readOf (now snapshot) .refusal ≡ 0) × (refusalOf (now list) (length (now entered)) ≡ 0) ⌝ }
-    ensures { λ a. ⌜ Follows (now (snapshot .entry)) (now (program .entry)) (now («data» .entry)) (now (list .entry)) budget (now (entered .entry)) a (now (snapshot .exit)) (now («data» .exit)) (now (entered .exit)) ⌝ }
+    requires { ⌜ (readOf (now snapshot) .refusal ≡ 0) × ((refusalOf (now list) (length (now entered)) ≡ 0) × (from ≤ budget)) ⌝ }
+    ensures { λ a. ⌜ Follows (now (snapshot .entry)) (now (program .entry)) (now («data» .entry)) (now (list .entry)) from budget (now (entered .entry)) a (now (snapshot .exit)) (now («data» .exit)) (now (entered .exit)) ⌝ }
 {
     let records = list.len() / 5;
     clear(entered, records);
     let mut i: usize = 0;
-    let mut done: u32 = 0;
+    let mut done = from;
     while i < records {
         let served = serve(
             snapshot,

@@ -4,11 +4,12 @@ use cores::Core;
 use run::Over;
 use run::Ran;
 ghost use mathlib.Core.Path.{_≡_};
+ghost use Prim.Native.Nat.{_-_, max};
 ghost use lib.Dec.{eqb};
 ghost use Rattle.basis.specs.Pick.{pick};
 ghost use Rattle.run.specs.Run.{Runs};
 ghost use Rattle.run.specs.Over.{RunsIn};
-ghost use Rattle.schedule.specs.Schedule.{scheduleOf, scheduleIn};
+ghost use Rattle.schedule.specs.Schedule.{scheduleOf, scheduleIn, scheduleFrom};
 
 mod follow;
 mod list;
@@ -39,7 +40,7 @@ pub fn run(
     }
     let mut bytes = [0u8; 38];
     snapshot::write(core, &mut bytes);
-    let over = follow::follow(&mut bytes, program, data, list, budget, entered);
+    let over = follow::follow(&mut bytes, program, data, list, 0, budget, entered);
     let read = snapshot::read(&bytes);
     ended(over.answer, over.ticks, read.core)
 }
@@ -56,15 +57,45 @@ pub fn run_in(
     ensures { λ r. ⌜ RunsIn (scheduleIn (now (snapshot .entry)) (now (program .entry)) (now («data» .entry)) (now (list .entry)) budget (now (entered .entry)) .run) r (now (snapshot .exit)) (now («data» .exit)) ⌝ }
     ensures { λ _. ⌜ now (entered .exit) ≡ scheduleIn (now (snapshot .entry)) (now (program .entry)) (now («data» .entry)) (now (list .entry)) budget (now (entered .entry)) .numbers ⌝ }
 {
+    go_on(snapshot, program, data, list, 0, budget, entered)
+}
+
+// The rest of a run that has done so many of its ticks, up to `budget` in all; `list` has the records not yet entered.
+pub fn go_on(
+    snapshot: &mut [u8],
+    program: &[u8],
+    data: &mut [u8],
+    list: &[u8],
+    done: u32,
+    budget: u32,
+    entered: &mut [u32],
+) -> Over
+    ensures { λ r. ⌜ RunsIn (scheduleFrom (now (snapshot .entry)) (now (program .entry)) (now («data» .entry)) (now (list .entry)) done (budget - done) (now (entered .entry)) .run) r (now (snapshot .exit)) (now («data» .exit)) ⌝ }
+    ensures { λ _. ⌜ now (entered .exit) ≡ scheduleFrom (now (snapshot .entry)) (now (program .entry)) (now («data» .entry)) (now (list .entry)) done (budget - done) (now (entered .entry)) .numbers ⌝ }
+{
     let read = snapshot::read(snapshot);
     if read.refusal != 0 {
-        return told(read.refusal, 0);
+        return told(read.refusal, done);
     }
     let refusal = list::refused(list, entered.len());
     if refusal != 0 {
-        return told(refusal, 0);
+        return told(refusal, done);
     }
-    follow::follow(snapshot, program, data, list, budget, entered)
+    follow::follow(
+        snapshot,
+        program,
+        data,
+        list,
+        done,
+        no_less(budget, done),
+        entered,
+    )
+}
+
+fn no_less(budget: u32, done: u32) -> u32
+    ensures { λ r. ⌜ r ≡ max budget done ⌝ }
+{
+    if budget < done { done } else { budget }
 }
 
 // What a run answers that makes no tick: its budget is none, or it would be refused.

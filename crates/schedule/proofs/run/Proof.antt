@@ -85,7 +85,7 @@ run-spec =
     (λ c. search needs)
     (λ c κs. search needs)
     (λ c. search needs)
-    (λ c κs. let v = c .before .before .before .before in (ap (λ r. r .refusal) (written v), passed (else1 v)))
+    (λ c κs. let v = c .before .before .before .before in (ap (λ r. r .refusal) (written v), (passed (else1 v), omega arith)))
     (λ c. search needs)
     (λ c κs. search needs)
     (λ c κs. search needs)

@@ -15,12 +15,12 @@ use Rattle.schedule.proofs.follow.follow.Statement.{statement}
 use Rattle.schedule.proofs.follow.follow.Tie as tie
 
 abbrev Inv-loop : tie.InvT-loop
-Inv-loop snapshot₀ program data₀ list budget entered₀ records i₀ done₀ snapshot «data» entered i done =
+Inv-loop snapshot₀ program data₀ list from budget entered₀ records i₀ done₀ snapshot «data» entered i done =
     (length snapshot ≡ length snapshot₀) × ((length «data» ≡ length data₀) × ((length entered ≡ length entered₀)
-    × Stands snapshot₀ program data₀ list budget (drop records entered₀) snapshot «data» entered i done))
+    × Stands snapshot₀ program data₀ list from budget (drop records entered₀) snapshot «data» entered i done))
 
 abbrev μ-loop : tie.MeasureT-loop
-μ-loop snapshot₀ program data₀ list budget entered₀ records i₀ done₀ snapshot «data» entered i done = records - i
+μ-loop snapshot₀ program data₀ list from budget entered₀ records i₀ done₀ snapshot «data» entered i done = records - i
 
 -- the numbers past the last record are those that were lent
 kept-past : (c : tie.After-slice-known4 Inv-loop μ-loop) → (let a = c .before .before .before .before .before .before .before .before .before .args in
@@ -45,8 +45,8 @@ loop-holds c =
         refl,
         (
           refl,
-          stands-first s (a .program .now) m l (a .budget) (drop (length l / 5) (c .before .before .clear .last .0)) (c .before .before .clear .last .0) (start .pre .0) snapshot-bytes data-bytes
-              (passed-rises l (length (a .entered .now)) (start .pre .1)) (cleared ∙ ap (λ (x : List ℕ). replicate (length l / 5) 0 ++ x) (sym (kept-past c))),
+          stands-first s (a .program .now) m l (a .from) (a .budget) (drop (length l / 5) (c .before .before .clear .last .0)) (c .before .before .clear .last .0) (start .pre .0) (start .pre .1 .1) snapshot-bytes data-bytes
+              (passed-rises l (length (a .entered .now)) (start .pre .1 .0)) (cleared ∙ ap (λ (x : List ℕ). replicate (length l / 5) 0 ++ x) (sym (kept-past c))),
         ),
       ),
     )
@@ -74,7 +74,7 @@ module _ (c : tie.After-serve Inv-loop μ-loop) where
   abbrev m' : List ℕ
   m' = c .serve .last .1 .1 .0
 
-  abbrev stands : Stands (start .args .snapshot .now) (start .args .program .now) (start .args .«data» .now) l (start .args .budget) (drop (length l / 5) (head .before .before .before .clear .last .0))
+  abbrev stands : Stands (start .args .snapshot .now) (start .args .program .now) (start .args .«data» .now) l (start .args .from) (start .args .budget) (drop (length l / 5) (head .before .before .before .clear .last .0))
       (head .loop .snapshot) (head .loop .«data») (head .loop .entered) i (head .loop .done)
   stands = head .loop .inv .1 .1 .1
 
@@ -113,7 +113,7 @@ loop-again c =
 roomy : (c : tie.After-serve Inv-loop μ-loop) → i c < length (head c .loop .entered)
 roomy c =
     let h = head c in
-    let room = passed-room (l c) (length (start c .args .entered .now)) (start c .pre .1) in
+    let room = passed-room (l c) (length (start c .args .entered .now)) (start c .pre .1 .0) in
     omega (arith, more c, room, h .loop .inv .1 .1 .0, h .before .before .before .clear .kept .0)
 
 -- behind the run with no record left
@@ -127,7 +127,7 @@ module _ (c : tie.After-run-in Inv-loop μ-loop) where
   abbrev past : List ℕ
   past = drop (length (first .args .list .now) / 5) (end .before .before .before .clear .last .0)
 
-  abbrev stands-last : Stands (first .args .snapshot .now) (first .args .program .now) (first .args .«data» .now) (first .args .list .now) (first .args .budget) past
+  abbrev stands-last : Stands (first .args .snapshot .now) (first .args .program .now) (first .args .«data» .now) (first .args .list .now) (first .args .from) (first .args .budget) past
       (end .loop .snapshot) (end .loop .«data») (end .loop .entered) (end .loop .i) (end .loop .done)
   stands-last = end .loop .inv .1 .1 .1
 
@@ -155,7 +155,7 @@ follow-spec =
     (tie.spec
     Inv-loop
     μ-loop
-    (λ c κs. let start = c .before .before .before .before .before .before in passed-room (start .args .list .now) (length (start .args .entered .now)) (start .pre .1))
+    (λ c κs. let start = c .before .before .before .before .before .before in passed-room (start .args .list .now) (length (start .args .entered .now)) (start .pre .1 .0))
     loop-holds
     (λ c κs. c .before .before .loop-test .taken)
     (λ c κs. c .before .before .before .loop-test .taken)
