@@ -14,6 +14,7 @@ use Rattle.run.proofs.tick_in.Met as tick-in
 use Rattle.run.proofs.run_in.Met as run-in
 use Rattle.schedule.proofs.run.Met as schedule-run
 use Rattle.schedule.proofs.run_in.Met as schedule-run-in
+use Rattle.schedule.proofs.go_on.Met as schedule-go-on
 use Rattle.snapshot.proofs.write.Met as write
 use Rattle.snapshot.proofs.read.Met as read
 use Rattle.host.proofs.avr_tick.Met as avr-tick
@@ -21,6 +22,8 @@ use Rattle.host.proofs.avr_foretell.Met as avr-foretell
 use Rattle.host.proofs.avr_run.Met as avr-run
 use Rattle.host.proofs.avr_run_schedule.Met as avr-run-schedule
 use Rattle.tracing.proofs.trace.Met as trace
+use Rattle.schedule_text.proofs.read.Met as schedule-text-read
+use Rattle.rerunning.proofs.rerun.Met as rerun
 use Rattle.hex.proofs.check.check.Met as hex-check
 use Rattle.hex.proofs.read.Met as hex-read
 use Rattle.hex.proofs.write.Met as hex-write
@@ -55,6 +58,7 @@ contracts =
       run-in = run-in.met;
       schedule-run = schedule-run.met;
       schedule-run-in = schedule-run-in.met;
+      schedule-go-on = schedule-go-on.met;
       write = write.met;
       read = read.met;
       avr-tick = avr-tick.met;
@@ -62,6 +66,8 @@ contracts =
       avr-run = avr-run.met;
       avr-run-schedule = avr-run-schedule.met;
       trace = trace.met;
+      schedule-text-read = schedule-text-read.met;
+      rerun = rerun.met;
       hex-check = hex-check.met;
       hex-read = hex-read.met;
       hex-write = hex-write.met;

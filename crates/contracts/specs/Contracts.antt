@@ -14,6 +14,7 @@ use Rattle.run.proofs.tick_in.Statement as tick-in
 use Rattle.run.proofs.run_in.Statement as run-in
 use Rattle.schedule.proofs.run.Statement as schedule-run
 use Rattle.schedule.proofs.run_in.Statement as schedule-run-in
+use Rattle.schedule.proofs.go_on.Statement as schedule-go-on
 use Rattle.snapshot.proofs.write.Statement as write
 use Rattle.snapshot.proofs.read.Statement as read
 use Rattle.host.proofs.avr_tick.Statement as avr-tick
@@ -21,6 +22,8 @@ use Rattle.host.proofs.avr_foretell.Statement as avr-foretell
 use Rattle.host.proofs.avr_run.Statement as avr-run
 use Rattle.host.proofs.avr_run_schedule.Statement as avr-run-schedule
 use Rattle.tracing.proofs.trace.Statement as trace
+use Rattle.schedule_text.proofs.read.Statement as schedule-text-read
+use Rattle.rerunning.proofs.rerun.Statement as rerun
 use Rattle.hex.proofs.check.check.Statement as hex-check
 use Rattle.hex.proofs.read.Statement as hex-read
 use Rattle.hex.proofs.write.Statement as hex-write
@@ -61,6 +64,7 @@ pub record Contracts : Type 2 where
   -- crates/schedule/src/lib.rt
   pub schedule-run : {M : Type 1} → schedule-run.statement M
   pub schedule-run-in : {M : Type 1} → schedule-run-in.statement M
+  pub schedule-go-on : {M : Type 1} → schedule-go-on.statement M
   -- crates/snapshot/src/lib.rt
   pub write : {M : Type 1} → write.statement M
   pub read : {M : Type 1} → read.statement M
@@ -72,6 +76,10 @@ pub record Contracts : Type 2 where
   pub avr-run-schedule : {M : Type 1} → avr-run-schedule.statement M
   -- crates/tracing/src/lib.rt
   pub trace : {M : Type 1} → trace.statement M
+  -- crates/schedule_text/src/lib.rt
+  pub schedule-text-read : {M : Type 1} → schedule-text-read.statement M
+  -- crates/rerunning/src/lib.rt
+  pub rerun : {M : Type 1} → rerun.statement M
   -- crates/hex/src/check.rt
   pub hex-check : {M : Type 1} → hex-check.statement M
   -- crates/hex/src/lib.rt

@@ -24,6 +24,9 @@ use Rattle.hex.proofs.EachByte.{each-byte}
 use Rattle.hex.proofs.Whole.{length-text}
 use Rattle.hex.proofs.Computed.{examples}
 use Rattle.schedule.proofs.Laws.{schedules-are-ticks, numbers-written, empty-list-is-a-run, same-schedule-under-larger-budget}
+use Rattle.schedule.proofs.InSteps.{runs-in-steps}
+use Rattle.schedule_text.proofs.Laws.{text-listed}
+use Rattle.schedule_text.proofs.Examples as texts
 use Rattle.table.proofs.Schedules.{schedule-calls-by-the-table}
 use Rattle.promises.proofs.Schedules.{schedules-leave-no-trace}
 use Rattle.promises.proofs.ScheduledStamps.{stamps-by-a-schedule}
@@ -71,4 +74,7 @@ requests =
       carried-out = told-runs;
       waits-at-once = waits-out;
       ran-goes-on = ran-goes-on;
+      schedule-text = text-listed;
+      schedule-text-examples = texts.examples;
+      schedule-in-steps = runs-in-steps;
     }

@@ -8,7 +8,9 @@ use Rattle.sampling.specs.Sampling.{SafeAfterSei, SamplingRoutine}
 use Rattle.snapshot.specs.Snapshot.{OldSnapshotsReadUnchanged}
 use Rattle.manual.specs.Witnesses.{Agreements}
 use Rattle.table.specs.Schedules.{ScheduleCallsByTheTable}
-use Rattle.schedule.specs.Laws.{SchedulesAreTicks, NumbersWritten, EmptyListIsARun, SameScheduleUnderLargerBudget}
+use Rattle.schedule.specs.Laws.{SchedulesAreTicks, NumbersWritten, EmptyListIsARun, SameScheduleUnderLargerBudget, RunsInSteps}
+use Rattle.schedule_text.specs.Laws.{TextListed}
+use Rattle.schedule_text.specs.Examples as texts
 use Rattle.latency.specs.Entry.{EntryWithinEight, EntryBehindTheWaits, RunsEnterWithinEight, ScheduleEntersWithinEight, AtMostSevenLate}
 use Rattle.latency.specs.Examples.{EightIsTheFigure}
 use Rattle.latency.specs.Cycles.{TicksByTheTable, InstructionsRunForTheirTicks, ManualBeside}
@@ -83,3 +85,9 @@ pub record Requests : Type 0 where
   pub carried-out : CarriedOutIsTheTick
   pub waits-at-once : WaitsAtOnce
   pub ran-goes-on : RanGoesOn
+  -- ---- The main job, `rerun` (docs/RERUN.md), which 02 does not ask for
+  -- crates/schedule_text/specs/Laws.antt, Examples.antt: what is read from a schedule's text is a list that W5's run takes, with the records that the text says; small texts
+  pub schedule-text : TextListed
+  pub schedule-text-examples : texts.Examples
+  -- crates/schedule/specs/Laws.antt: a run by a list, taken up where its budget had ended, is the run that the whole budget gives
+  pub schedule-in-steps : RunsInSteps

@@ -1,0 +1,2 @@
+-- `Rerun`: what the program writes for its input.
+pub mod Rerun
