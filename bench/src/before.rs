@@ -27,7 +27,7 @@ extern "C" {
 
 pub struct Before;
 
-// As host/rust/src/lib.rs has them: the slices are disjoint and live through the call, and `ticks` is a local of it.
+// As host/rust/src/bytes.rs has them: the slices are disjoint and live through the call, and `ticks` is a local of it.
 impl Archive for Before {
     fn tick(snapshot: &mut [u8], program: &[u8], data: &mut [u8], offer: u32) -> u32 {
         unsafe {

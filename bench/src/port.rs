@@ -3,11 +3,11 @@
 use std::marker::PhantomData;
 
 use crate::work::{Machine, Pass, Work};
-use avr_core::Snapshot;
+use avr_core::{bytes, Answer, Snapshot};
 
-const BUDGET: u32 = 24;
-const WAITED: u32 = 16;
-const RAN: u32 = 18;
+const BUDGET: u32 = Answer::Budget.number();
+const WAITED: u32 = Answer::Waited.number();
+const RAN: u32 = Answer::Ran.number();
 
 /// The calls of one archive.
 pub trait Archive {
@@ -20,11 +20,11 @@ pub struct Present;
 
 impl Archive for Present {
     fn tick(snapshot: &mut [u8], program: &[u8], data: &mut [u8], offer: u32) -> u32 {
-        avr_core::tick(snapshot, program, data, offer)
+        bytes::tick(snapshot, program, data, offer)
     }
 
     fn run(snapshot: &mut [u8], program: &[u8], data: &mut [u8], offer: u32, budget: u32) -> (u32, u32) {
-        avr_core::run(snapshot, program, data, offer, budget)
+        bytes::run(snapshot, program, data, offer, budget)
     }
 }
 
@@ -42,7 +42,7 @@ pub struct Port<A: Archive> {
 impl<A: Archive> Port<A> {
     /// `way` is `Port::run` or `Port::ticks`.
     pub fn new(work: &Work, way: Way<A>) -> Self {
-        let offer = work.vector.map_or(avr_core::NO_OFFER, u32::from);
+        let offer = work.vector.map_or(bytes::NO_OFFER, u32::from);
         Port { image: work.image.clone(), offer, data: vec![0; work.data_bytes], snapshot: Snapshot::fresh(0), way, archive: PhantomData }
     }
 
@@ -77,7 +77,7 @@ impl<A: Archive> Machine for Port<A> {
     }
 
     fn registers(&self) -> [u8; 32] {
-        self.snapshot[..32].try_into().expect("that length")
+        *self.snapshot.registers()
     }
 
     fn data(&self) -> Vec<u8> {

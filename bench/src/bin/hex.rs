@@ -6,6 +6,8 @@ use std::process::{Command, ExitStatus, Stdio};
 use std::time::Instant;
 use std::{env, io};
 
+use avr_core::{bytes, hex_bytes};
+
 const LONGEST: usize = 65_536;
 /// The length of every image that `unhex` writes.
 const IMAGE: usize = 49_152;
@@ -49,8 +51,8 @@ fn program(length: usize) -> Vec<u8> {
 }
 
 fn text(program: &[u8]) -> Vec<u8> {
-    let mut text = vec![0; avr_core::hex_bytes(program.len())];
-    assert_eq!(avr_core::hex_write(program, &mut text), (0, text.len()));
+    let mut text = vec![0; hex_bytes(program.len())];
+    assert_eq!(bytes::hex_write(program, &mut text), (0, text.len()));
     text
 }
 
@@ -61,8 +63,8 @@ fn calls() -> [Work; 2] {
     let (mut back, mut again) = (vec![0; LONGEST], vec![0; text.len()]);
     let written = (0, text.len());
     [
-        Work::new("avr_hex_read", move || assert_eq!(avr_core::hex_read(&text, &mut back), (0, 0))),
-        Work::new("avr_hex_write", move || assert_eq!(avr_core::hex_write(&program, &mut again), written)),
+        Work::new("avr_hex_read", move || assert_eq!(bytes::hex_read(&text, &mut back), (0, 0))),
+        Work::new("avr_hex_write", move || assert_eq!(bytes::hex_write(&program, &mut again), written)),
     ]
 }
 
@@ -115,7 +117,7 @@ fn main() {
     }
     let mut processes = processes();
     measure(&mut calls, &mut processes);
-    let bytes = avr_core::hex_bytes(LONGEST);
+    let bytes = hex_bytes(LONGEST);
     println!("a program of 64 KiB, {bytes} bytes of text; median of {ROUNDS} rounds (best)");
     for work in &mut calls {
         let (median, best) = work.median_and_best();

@@ -7,7 +7,7 @@ mod clock;
 use std::env;
 use std::process::exit;
 
-use avr_core::{Firing, Snapshot};
+use avr_core::{bytes, Answer, Firing, Snapshot};
 use clock::processor_time;
 
 const TICKS: u32 = 10_000_000;
@@ -19,9 +19,9 @@ const VECTOR: u16 = 16;
 const NOP: u16 = 0x0000;
 const SEI: u16 = 0x9478;
 const BREAK: u16 = 0x9598;
-const ENTERED: u32 = 17;
-const RAN: u32 = 18;
-const BUDGET: u32 = 24;
+const ENTERED: u32 = Answer::Entered.number();
+const RAN: u32 = Answer::Ran.number();
+const BUDGET: u32 = Answer::Budget.number();
 
 /// What stands behind a run: the core, the data, and the tick of each entry.
 type Outcome = (Snapshot, Vec<u8>, Vec<u32>);
@@ -43,13 +43,13 @@ impl Way {
 
     fn run(&self) -> Outcome {
         let (mut snapshot, mut data, entered) = self.fresh();
-        assert_eq!(avr_core::run(&mut snapshot, &self.program, &mut data, avr_core::NO_OFFER, TICKS), (BUDGET, TICKS));
+        assert_eq!(bytes::run(&mut snapshot, &self.program, &mut data, bytes::NO_OFFER, TICKS), (BUDGET, TICKS));
         (snapshot, data, entered)
     }
 
     fn schedule(&self) -> Outcome {
         let (mut snapshot, mut data, mut entered) = self.fresh();
-        assert_eq!(avr_core::run_schedule(&mut snapshot, &self.program, &mut data, &self.list, TICKS, &mut entered), (BUDGET, TICKS));
+        assert_eq!(bytes::run_schedule(&mut snapshot, &self.program, &mut data, &self.list, TICKS, &mut entered), (BUDGET, TICKS));
         (snapshot, data, entered)
     }
 
@@ -58,9 +58,9 @@ impl Way {
         let (mut snapshot, mut data, mut entered) = self.fresh();
         let mut next = 0;
         for tick in 1..=TICKS {
-            let due = self.firings.get(next).filter(|firing| firing.tick <= tick);
-            let offer = due.map_or(avr_core::NO_OFFER, |firing| firing.vector.into());
-            let answer = avr_core::tick(&mut snapshot, &self.program, &mut data, offer);
+            let due = self.firings.get(next).filter(|firing| firing.tick() <= tick);
+            let offer = due.map_or(bytes::NO_OFFER, |firing| firing.vector().into());
+            let answer = bytes::tick(&mut snapshot, &self.program, &mut data, offer);
             assert!(answer <= RAN, "a tick stopped");
             if answer == ENTERED {
                 entered[next] = tick;
@@ -83,18 +83,22 @@ fn endless() -> Vec<u8> {
     with(IMAGE.to_vec(), BREAK, |place| 0xC000 | (place + 1).wrapping_neg() & 0x0FFF)
 }
 
+fn fired(tick: u32) -> Firing {
+    Firing::new(tick, VECTOR).expect("no tick has more than 24 bits")
+}
+
 /// One in the middle of every so many ticks.
 fn every(ticks: u32) -> Vec<Firing> {
-    (0..TICKS / ticks).map(|i| Firing { tick: i * ticks + ticks / 2, vector: VECTOR }).collect()
+    (0..TICKS / ticks).map(|i| fired(i * ticks + ticks / 2)).collect()
 }
 
 /// The firing that waits throughout does so since nothing sets I.
 fn ways() -> Vec<Way> {
     let way = |name, go, firings: Vec<Firing>| {
-        let list = avr_core::list_of(&firings).expect("no tick has more than 24 bits");
+        let list = bytes::list_of(&firings);
         Way { name, call: name.split(',').next().expect("its call is first"), go, program: endless(), firings, list }
     };
-    let one = vec![Firing { tick: 1, vector: VECTOR }];
+    let one = vec![fired(1)];
     vec![
         way("avr_run, none", Way::run, vec![]),
         way("avr_run_schedule, none", Way::schedule, vec![]),

@@ -8,13 +8,13 @@ use crate::machine::{Followed, Machine};
 use crate::random::Random;
 
 /// Entries come in the list's order, none before its firing; what was not entered stands behind.
-fn in_order(fired: &[u32], entered: &[u32]) -> bool {
-    let (entered, left) = entered.split_at(entered.iter().take_while(|&&tick| tick != 0).count());
+fn in_order(fired: &[u32], entries: &[Option<u32>]) -> bool {
+    let entered: Vec<u32> = entries.iter().map_while(|&tick| tick).collect();
     let rise = entered.windows(2).all(|pair| pair[0] < pair[1]);
-    rise && fired.iter().zip(entered).all(|(fired, entered)| fired <= entered) && left.iter().all(|&tick| tick == 0)
+    rise && fired.iter().zip(&entered).all(|(fired, entered)| fired <= entered) && entries[entered.len()..].iter().all(Option::is_none)
 }
 
-/// What holds of every list: the report, an overflow counted for each number that is not 0, and the order of the numbers.
+/// What holds of every list: the report, an overflow counted for each entry, and the order of the entries.
 fn follow(program: &[u8], rule: Rule, log: &Log, fired: &[u32], what: &str) -> Result<Followed, String> {
     let followed = Machine::fresh(program, rule).follow(fired)?;
     same_under_timer(&followed.outcome, log, what)?;

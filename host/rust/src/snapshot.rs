@@ -2,7 +2,10 @@
 
 use std::ops::{Deref, DerefMut};
 
-use crate::SNAPSHOT_BYTES;
+use crate::Refusal;
+
+/// The bytes of a snapshot: R0 to R31, SREG, PC, SP, busy 3 bits, inhibit, in-service, the rule (1 is chip), two zero bits. [`Snapshot`] has them by name.
+pub const SNAPSHOT_BYTES: usize = 38;
 
 const SREG: usize = 32;
 const PC: usize = 33;
@@ -26,80 +29,203 @@ pub enum Rule {
     Chip,
 }
 
-/// The bytes that `tick` and `run` take, which they may be handed as they are: `tick(&mut snapshot, ..)`.
+/// A core: its 38 bytes, with the fields by name. It is those bytes where a slice is asked for, as by [`bytes`](crate::bytes), and is made of any that many.
+///
+/// ```
+/// use avr_core::{Refusal, Snapshot};
+///
+/// let mut snapshot = Snapshot::fresh(0x3FFF);
+/// snapshot.set_pc(2);
+/// let kept = snapshot.to_vec();
+/// assert_eq!(Snapshot::try_from(&kept[..]), Ok(snapshot));
+/// assert_eq!(Snapshot::try_from(&kept[1..]), Err(Refusal::SnapshotLength));
+/// ```
 #[derive(Clone, PartialEq, Eq, Debug)]
 pub struct Snapshot([u8; SNAPSHOT_BYTES]);
 
 impl Snapshot {
     /// A fresh core: everything zero but SP, and the rule source.
+    ///
+    /// ```
+    /// use avr_core::{Rule, Snapshot};
+    /// let snapshot = Snapshot::fresh(0x3FFF);
+    /// assert_eq!((snapshot.sp(), snapshot.pc(), snapshot.rule()), (0x3FFF, 0, Rule::Source));
+    /// ```
     pub fn fresh(sp: u16) -> Self {
         let mut fresh = Snapshot([0; SNAPSHOT_BYTES]);
         fresh.set_sp(sp);
         fresh
     }
 
-    /// Nothing where there is no such register, above 31.
-    pub fn register(&self, number: u8) -> Option<u8> {
-        self.0[..SREG].get(usize::from(number)).copied()
+    /// R0 to R31.
+    ///
+    /// ```
+    /// assert_eq!(avr_core::Snapshot::fresh(0x3FFF).registers(), &[0; 32]);
+    /// ```
+    pub fn registers(&self) -> &[u8; SREG] {
+        self.0[..SREG].try_into().expect("SREG stands behind the registers")
     }
 
-    /// Nothing, and no byte changed, where there is no such register, above 31.
+    /// R0 to R31, to be set.
+    ///
+    /// ```
+    /// let mut snapshot = avr_core::Snapshot::fresh(0x3FFF);
+    /// snapshot.registers_mut()[16] = 5;
+    /// assert_eq!(snapshot.register(16), Some(5));
+    /// ```
+    pub fn registers_mut(&mut self) -> &mut [u8; SREG] {
+        (&mut self.0[..SREG]).try_into().expect("SREG stands behind the registers")
+    }
+
+    /// A register. Nothing where there is none of that number, above 31.
+    ///
+    /// ```
+    /// let snapshot = avr_core::Snapshot::fresh(0x3FFF);
+    /// assert_eq!((snapshot.register(31), snapshot.register(32)), (Some(0), None));
+    /// ```
+    pub fn register(&self, number: u8) -> Option<u8> {
+        self.registers().get(usize::from(number)).copied()
+    }
+
+    /// Sets a register. Nothing, and no byte changed, where there is none of that number, above 31.
+    ///
+    /// ```
+    /// let mut snapshot = avr_core::Snapshot::fresh(0x3FFF);
+    /// assert_eq!((snapshot.set_register(31, 0xA5), snapshot.set_register(32, 0xA5)), (Some(()), None));
+    /// assert_eq!(snapshot.register(31), Some(0xA5));
+    /// ```
     #[must_use = "above 31 there is no register, and nothing is set"]
     pub fn set_register(&mut self, number: u8, value: u8) -> Option<()> {
-        *self.0[..SREG].get_mut(usize::from(number))? = value;
+        *self.registers_mut().get_mut(usize::from(number))? = value;
         Some(())
     }
 
+    /// SREG, whose bits 0 to 7 are C Z N V S H T I.
+    ///
+    /// ```
+    /// assert_eq!(avr_core::Snapshot::fresh(0x3FFF).sreg(), 0);
+    /// ```
     pub fn sreg(&self) -> u8 {
         self.0[SREG]
     }
 
+    /// Sets SREG.
+    ///
+    /// ```
+    /// let mut snapshot = avr_core::Snapshot::fresh(0x3FFF);
+    /// snapshot.set_sreg(0x80);
+    /// assert_eq!(snapshot.sreg(), 0x80);
+    /// ```
     pub fn set_sreg(&mut self, sreg: u8) {
         self.0[SREG] = sreg;
     }
 
+    /// PC, a word address.
+    ///
+    /// ```
+    /// assert_eq!(avr_core::Snapshot::fresh(0x3FFF).pc(), 0);
+    /// ```
     pub fn pc(&self) -> u16 {
         self.word(PC)
     }
 
+    /// Sets PC.
+    ///
+    /// ```
+    /// let mut snapshot = avr_core::Snapshot::fresh(0x3FFF);
+    /// snapshot.set_pc(0x1234);
+    /// assert_eq!(snapshot.pc(), 0x1234);
+    /// ```
     pub fn set_pc(&mut self, pc: u16) {
         self.set_word(PC, pc);
     }
 
+    /// SP.
+    ///
+    /// ```
+    /// assert_eq!(avr_core::Snapshot::fresh(0x3FFF).sp(), 0x3FFF);
+    /// ```
     pub fn sp(&self) -> u16 {
         self.word(SP)
     }
 
+    /// Sets SP.
+    ///
+    /// ```
+    /// let mut snapshot = avr_core::Snapshot::fresh(0x3FFF);
+    /// snapshot.set_sp(0x01FF);
+    /// assert_eq!(snapshot.sp(), 0x01FF);
+    /// ```
     pub fn set_sp(&mut self, sp: u16) {
         self.set_word(SP, sp);
     }
 
     /// The ticks still to wait.
+    ///
+    /// ```
+    /// assert_eq!(avr_core::Snapshot::fresh(0x3FFF).busy(), 0);
+    /// ```
     pub fn busy(&self) -> u8 {
         self.0[LAST] >> BUSY.trailing_zeros()
     }
 
-    /// Above 4 the call is refused with 8. The field holds 7 at most, and that is what a larger number sets.
+    /// Sets the ticks still to wait. Above 4 a call is refused with [`Refusal::BusyField`]. The field holds 7 at most, and that is what a larger number sets.
+    ///
+    /// ```
+    /// let mut snapshot = avr_core::Snapshot::fresh(0x3FFF);
+    /// snapshot.set_busy(5);
+    /// assert_eq!(snapshot.busy(), 5);
+    /// assert!(avr_core::tick(&mut snapshot, &[0, 0], &mut [], None).is_err());
+    /// ```
     pub fn set_busy(&mut self, busy: u8) {
         self.0[LAST] = self.0[LAST] & !BUSY | busy.min(7) << BUSY.trailing_zeros();
     }
 
+    /// Whether the next tick that does not wait enters no interrupt, as behind RETI.
+    ///
+    /// ```
+    /// assert!(!avr_core::Snapshot::fresh(0x3FFF).inhibit());
+    /// ```
     pub fn inhibit(&self) -> bool {
         self.flag(INHIBIT)
     }
 
+    /// Sets whether the next tick that does not wait enters no interrupt.
+    ///
+    /// ```
+    /// let mut snapshot = avr_core::Snapshot::fresh(0x3FFF);
+    /// snapshot.set_inhibit(true);
+    /// assert!(snapshot.inhibit());
+    /// ```
     pub fn set_inhibit(&mut self, on: bool) {
         self.set_flag(INHIBIT, on);
     }
 
+    /// Whether a handler is under way: from the entry to its RETI.
+    ///
+    /// ```
+    /// assert!(!avr_core::Snapshot::fresh(0x3FFF).in_service());
+    /// ```
     pub fn in_service(&self) -> bool {
         self.flag(IN_SERVICE)
     }
 
+    /// Sets whether a handler is under way.
+    ///
+    /// ```
+    /// let mut snapshot = avr_core::Snapshot::fresh(0x3FFF);
+    /// snapshot.set_in_service(true);
+    /// assert!(snapshot.in_service());
+    /// ```
     pub fn set_in_service(&mut self, on: bool) {
         self.set_flag(IN_SERVICE, on);
     }
 
+    /// Whose rule the core goes by.
+    ///
+    /// ```
+    /// assert_eq!(avr_core::Snapshot::fresh(0x3FFF).rule(), avr_core::Rule::Source);
+    /// ```
     pub fn rule(&self) -> Rule {
         if self.flag(CHIP) {
             Rule::Chip
@@ -108,7 +234,13 @@ impl Snapshot {
         }
     }
 
-    /// No call changes it afterwards.
+    /// Sets whose rule the core goes by. No call changes it afterwards.
+    ///
+    /// ```
+    /// let mut snapshot = avr_core::Snapshot::fresh(0x3FFF);
+    /// snapshot.set_rule(avr_core::Rule::Chip);
+    /// assert_eq!(snapshot.rule(), avr_core::Rule::Chip);
+    /// ```
     pub fn set_rule(&mut self, rule: Rule) {
         self.set_flag(CHIP, rule == Rule::Chip);
     }
@@ -137,6 +269,15 @@ impl From<[u8; SNAPSHOT_BYTES]> for Snapshot {
     }
 }
 
+/// As many bytes as a snapshot has, or [`Refusal::SnapshotLength`].
+impl TryFrom<&[u8]> for Snapshot {
+    type Error = Refusal;
+
+    fn try_from(bytes: &[u8]) -> Result<Self, Refusal> {
+        bytes.try_into().map(Snapshot).map_err(|_| Refusal::SnapshotLength)
+    }
+}
+
 impl From<Snapshot> for [u8; SNAPSHOT_BYTES] {
     fn from(snapshot: Snapshot) -> Self {
         snapshot.0
@@ -160,13 +301,6 @@ impl DerefMut for Snapshot {
 #[cfg(test)]
 mod tests {
     use super::*;
-    use crate::{tick, NO_OFFER};
-
-    fn fresh(rule: Rule) -> Snapshot {
-        let mut snapshot = Snapshot::fresh(0x3FFF);
-        snapshot.set_rule(rule);
-        snapshot
-    }
 
     /// A fresh core's 38 bytes, some of them otherwise.
     fn bytes(others: &[(usize, u8)]) -> [u8; SNAPSHOT_BYTES] {
@@ -202,7 +336,8 @@ mod tests {
         assert_eq!((snapshot.register(31), snapshot.register(32), snapshot.set_register(32, 0)), (Some(0xFF), None, None));
         assert_eq!((snapshot.sreg(), snapshot.pc(), snapshot.sp()), (0xFF, 0xFFFF, 0xFFFF));
         assert_eq!((snapshot.busy(), snapshot.inhibit(), snapshot.in_service(), snapshot.rule()), (7, true, true, Rule::Chip));
-        (0..32).for_each(|number| snapshot.set_register(number, 0).unwrap());
+        assert_eq!(snapshot.registers(), &[0xFF; 32]);
+        snapshot.registers_mut().fill(0);
         snapshot.set_sreg(0);
         snapshot.set_pc(0);
         snapshot.set_sp(0x3FFF);
@@ -214,77 +349,12 @@ mod tests {
         assert_eq!(<[u8; SNAPSHOT_BYTES]>::from(snapshot), bytes(&[(37, 0x03)]));
     }
 
-    /// Line 2 of document 01's bench sheet, from SREG 0. Under source these are the bytes that there were before there was a rule.
     #[test]
-    fn adiw_goes_by_the_rule() {
-        for (rule, sreg, last) in [(Rule::Source, 0x0C, 0x20), (Rule::Chip, 0x14, 0x24)] {
-            let mut snapshot = fresh(rule);
-            snapshot.set_register(24, 0x01).unwrap();
-            snapshot.set_register(25, 0x80).unwrap();
-            assert_eq!(tick(&mut snapshot, &[0x01, 0x96], &mut [], NO_OFFER), 18);
-            assert_eq!(snapshot, bytes(&[(24, 0x02), (25, 0x80), (32, sreg), (34, 1), (37, last)]).into());
-        }
-    }
-
-    /// Pointer loads and stores, also at SREG's address, and LDS and STS, which go by no pointer.
-    #[test]
-    fn pointer_access_waits_by_the_rule() {
-        let waits = |rule, program: &[u8], x| {
-            let mut snapshot = fresh(rule);
-            snapshot.set_register(26, x).unwrap();
-            assert_eq!(tick(&mut snapshot, program, &mut [0], NO_OFFER), 18);
-            snapshot.busy()
-        };
-        let (ld, st, lds, sts) = ([0x0C, 0x91], [0x0C, 0x93], [0x00, 0x91, 0, 0], [0x00, 0x93, 0, 0]);
-        for (rule, load, store) in [(Rule::Source, 2, 1), (Rule::Chip, 1, 0)] {
-            for x in [0, 0x3D, 0x3E, 0x3F] {
-                assert_eq!((waits(rule, &ld, x), waits(rule, &st, x)), (load, store));
-            }
-            assert_eq!((waits(rule, &lds, 0), waits(rule, &sts, 0)), (2, 1));
-        }
-    }
-
-    /// BSET and BCLR of each flag, with I clear and set; and I set by OUT and STS, which write SREG.
-    #[test]
-    fn sei_alone_inhibits_and_under_chip() {
-        let inhibits = |rule, program: &[u8], sreg| {
-            let mut snapshot = fresh(rule);
-            snapshot.set_sreg(sreg);
-            snapshot.set_register(16, 0x80).unwrap();
-            assert_eq!(tick(&mut snapshot, program, &mut [], NO_OFFER), 18);
-            snapshot.inhibit()
-        };
-        for rule in [Rule::Source, Rule::Chip] {
-            for (flag, sreg) in (0..8).flat_map(|flag| [(flag, 0x00), (flag, 0x80)]) {
-                assert_eq!(inhibits(rule, &[0x08 | flag << 4, 0x94], sreg), rule == Rule::Chip && flag == 7);
-                assert!(!inhibits(rule, &[0x88 | flag << 4, 0x94], sreg));
-            }
-            assert!(!inhibits(rule, &[0x0F, 0xBF], 0)); // OUT 0x3F,R16
-            assert!(!inhibits(rule, &[0x00, 0x93, 0x3F, 0x00], 0)); // STS 0x3F,R16
-        }
-    }
-
-    /// A wait, an entry at vector 1, its four waits, RETI there, a wait.
-    #[test]
-    fn ticks_keep_the_rule() {
-        for rule in [Rule::Source, Rule::Chip] {
-            let (mut snapshot, mut data) = (fresh(rule), [0; 0x4000]);
-            snapshot.set_sreg(0x80);
-            snapshot.set_busy(1);
-            for answer in [16, 17, 16, 16, 16, 16, 18, 16] {
-                assert_eq!(tick(&mut snapshot, &[0, 0, 0x18, 0x95], &mut data, 1), answer);
-                assert_eq!(snapshot.rule(), rule);
-            }
-            assert_eq!((snapshot.pc(), snapshot.sp(), snapshot.busy(), snapshot.in_service()), (0, 0x3FFF, 2, false));
-        }
-    }
-
-    #[test]
-    fn two_spare_bits_are_left() {
-        for (last, answer) in [(0, 18), (1, 9), (2, 9), (3, 9), (4, 18), (5, 9), (6, 9), (7, 9)] {
-            let mut snapshot = Snapshot::from(bytes(&[(37, last)]));
-            assert_eq!(tick(&mut snapshot, &[0, 0], &mut [], NO_OFFER), answer);
-            assert_eq!(snapshot[37], last);
+    fn other_lengths_are_no_snapshot() {
+        let bytes = [0xA5; SNAPSHOT_BYTES + 1];
+        assert_eq!(Snapshot::try_from(&bytes[1..]), Ok(Snapshot([0xA5; SNAPSHOT_BYTES])));
+        for other in [&bytes[..], &bytes[2..], &[]] {
+            assert_eq!(Snapshot::try_from(other), Err(Refusal::SnapshotLength));
         }
     }
 }

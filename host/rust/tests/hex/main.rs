@@ -7,7 +7,8 @@ mod reader;
 mod texts;
 mod writer;
 
-use avr_core::{hex_bytes, hex_read, hex_write};
+use avr_core::bytes::{hex_read, hex_write};
+use avr_core::{hex_bytes, HexRefused};
 use lent::Lent;
 use random::Random;
 use std::collections::BTreeMap;
@@ -26,6 +27,14 @@ fn room(random: &mut Random) -> usize {
     }
 }
 
+/// The typed call's refusal and line, as the bytes' call gives them.
+fn typed(text: &[u8], room: usize) -> (u32, usize) {
+    match avr_core::hex_read(text, &mut vec![0; room]) {
+        Ok(()) => (0, 0),
+        Err(HexRefused { refusal, line }) => (refusal.number(), line),
+    }
+}
+
 /// Reads the text both ways into random bytes between guards. Gives the refusal, 0 where there is none. What stands behind the text is not lent, and must not count.
 fn read_both_ways(text: &[u8], room: usize, random: &mut Random) -> u32 {
     let mut lent = Lent::new(random, room);
@@ -36,7 +45,7 @@ fn read_both_ways(text: &[u8], room: usize, random: &mut Random) -> u32 {
         Ok(program) => ((0, 0), &program[..]),
         Err(refused) => (*refused, &[][..]),
     };
-    assert_eq!(said, number, "{room} bytes of room, text {}", text.escape_ascii());
+    assert_eq!((said, typed(text, room)), (number, number), "{room} bytes of room, text {}", text.escape_ascii());
     assert!(lent.holds(bytes), "other bytes than expected: {room} bytes of room, text {}", text.escape_ascii());
     number.0
 }
@@ -96,6 +105,7 @@ fn what_was_written_is_read_back() {
     for length in lengths(&mut random).into_iter().filter(|&length| length <= MOST) {
         let (program, mut text, mut lent) = (random.bytes(length), vec![0; hex_bytes(length)], Lent::new(&mut random, length));
         assert_eq!(hex_write(&program, &mut text), (0, text.len()));
+        assert!(avr_core::hex_write(&program).as_ref() == Ok(&text), "another text of {length} bytes by the typed call");
         assert_eq!(hex_read(&text, lent.part()), (0, 0));
         assert!(lent.holds(&program), "another program of {length} bytes is read back");
     }
