@@ -27,3 +27,7 @@ pub use refusal::Refusal;
 pub use schedule::{run_schedule, Firing, ScheduleRefused, Scheduled};
 pub use snapshot::{Rule, Snapshot, SNAPSHOT_BYTES};
 pub use ticks::{foretell, run, tick, Ran, Refused};
+
+#[cfg(doctest)]
+#[doc = include_str!("../README.md")]
+struct ReadMe;
