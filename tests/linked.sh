@@ -55,6 +55,10 @@ says_the_schedule() { # COMMAND...: prints when each firing of the timer was ent
     [ "$("$@")" = "$(printf '%s\n' "$entries" 'fired at tick 9000: not entered' 'answer 22 after 2557 ticks' 'hottest hour 80.35')" ]
 }
 
+says_cs_words() { # COMMAND...: prints every number with its words as target/numbers does
+    $emulator target/numbers >"$work/numbers" && "$@" | cmp - "$work/numbers"
+}
+
 says_what_to_run() { # host/rust, with no archive, names the command that writes it
     said=$(AVR_CORE_LIB=$work/nowhere "$cargo" build --quiet --offline --release $target --manifest-path host/rust/Cargo.toml --target-dir target/cargo 2>&1)
     [ $? != 0 ] && echo "$said" | grep -q 'run `rt staticlib host`'
@@ -84,11 +88,18 @@ in_readme host/c/first.c
 in_readme host/rust/examples/first.rs
 make_archive
 
+if there 'host/c as C++' c++; then
+    for program in fields first numbers; do
+        quietly "host/c/$program.c as C++" c++ -std=c++17 -Wall -Wextra -Wpedantic -Werror -fsyntax-only -Iinclude -x c++ "host/c/$program.c"
+    done
+fi
+
 if can_link host/c "$cc"; then
-    for program in example first; do
-        quietly "host/c/$program.c" "$cc" -Iinclude "host/c/$program.c" target/staticlib/libhost.a -o "target/$program"
+    for program in example fields first numbers; do
+        quietly "host/c/$program.c" "$cc" -std=c11 -Wall -Wextra -Wpedantic -Werror -Iinclude "host/c/$program.c" target/staticlib/libhost.a -o "target/$program"
     done
     quietly target/example $emulator target/example
+    quietly target/fields $emulator target/fields
     try_first target/first
     for program in runs schedules; do
         quietly "tests/$program.c" "$cc" -std=gnu11 -O2 -Wall -Wextra -Werror -Iinclude "tests/$program.c" target/staticlib/libhost.a -o "target/$program"
@@ -106,6 +117,7 @@ if can_link host/rust "$cargo" "$cc"; then
     quietly "$built/examples/rules" says_both_rules $emulator "$built/examples/rules"
     quietly "$built/examples/foretell" says_the_foretold $emulator "$built/examples/foretell"
     quietly "$built/examples/schedule" says_the_schedule $emulator "$built/examples/schedule"
+    quietly "$built/examples/numbers" says_cs_words $emulator "$built/examples/numbers"
     runs_nothing 'refused-57' $emulator "$built/examples/to_hex" <"$work/bytes"
     note $? 'to_hex on too long a program'
 fi

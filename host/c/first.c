@@ -14,11 +14,15 @@ int main(int argc, char **argv) {
         return 1;
     }
     uint32_t refusal = avr_hex_read(text, length, program, sizeof program, &line);
-    if (refusal != 0) {
+    if (refusal != AVR_DONE) {
         fprintf(stderr, "%s: refused-%u at line %zu\n", argv[1], (unsigned)refusal, line);
         return 1;
     }
     uint32_t ticks = 0;
     uint32_t answer = avr_run(snapshot, sizeof snapshot, program, sizeof program, data, sizeof data, AVR_NO_OFFER, 10, &ticks);
-    printf("answer %u after %u ticks, R16 is %u\n", (unsigned)answer, (unsigned)ticks, (unsigned)snapshot[16]);
+    if (avr_is_refusal(answer)) {
+        fprintf(stderr, "refused-%u after %u ticks: %s\n", (unsigned)answer, (unsigned)ticks, avr_word(answer));
+        return 1;
+    }
+    printf("answer %u after %u ticks, R16 is %u\n", (unsigned)answer, (unsigned)ticks, (unsigned)avr_register(snapshot, 16));
 }
