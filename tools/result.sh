@@ -14,7 +14,11 @@ core_of() { # RULE: the core afterwards, a line NAME VALUE each; SREG by its let
         { for (i = 1; i <= NF; i++) byte[n++] = $i }
         END {
             for (i = 0; i < 32; i++) printf "R%d %02X\n", i, byte[i]
-            for (i = 7; i >= 0; i--) letters = letters (int(byte[32] / 2 ^ i) % 2 ? substr("CZNVSHTI", i + 1, 1) : "-")
+            left = byte[32]
+            for (i = 1; i <= 8; i++) {
+                letters = (left % 2 ? substr("CZNVSHTI", i, 1) : "-") letters
+                left = int(left / 2)
+            }
             printf "SREG %02X %s\n", byte[32], letters
             printf "PC %04X\nSP %04X\n", byte[33] * 256 + byte[34], byte[35] * 256 + byte[36]
             printf "busy %d\ninhibit %d\nin-service %d\n", int(byte[37] / 32), int(byte[37] / 16) % 2, int(byte[37] / 8) % 2
