@@ -3,7 +3,7 @@ image_bytes=49152 # the longest program that trace takes, and what unhex writes
 kit_loader=''     # as find_loader sets it
 
 stop() { # TEXT: says why nothing is run
-    echo "$name: $*" >&2
+    printf '%s\n' "$name: $*" >&2
     exit 1
 }
 

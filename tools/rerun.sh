@@ -6,7 +6,7 @@ text_most=1048576 data_most=65536
 broken='' # yes once Ctrl-C was pressed
 
 wrong() { # TEXT: says in one line what to do, where the command was used wrongly
-    echo "$name: $*" >&2
+    printf '%s\n' "$name: $*" >&2
     exit 2
 }
 
@@ -28,6 +28,17 @@ plain_file() { # FILE WHAT: stops where it cannot be read
 take() { # FILE WHAT MOST COPY: copies it into $work, so that what is run is what is hashed
     head -c $(($3 + 1)) <"$1" >"$work/$4" 2>/dev/null || wrong "cannot read $1; give a $2 that can be read"
     [ "$(wc -c <"$work/$4")" -le "$3" ] || wrong "$1 is too long; a $2 has at most $(spaced "$3") bytes"
+}
+
+check_out() { # OPTION FILE READ...: stops where FILE cannot be written, or is one of those that are read; makes the temporary $FILE.$$ beside it
+    option=$1 target=$2
+    shift 2
+    [ ! -d "$target" ] || wrong "$option $target is a folder; give the name of a file"
+    [ ! -e "$target" ] || { [ -f "$target" ] && [ -w "$target" ]; } || wrong "$option $target cannot be written; give another file"
+    for read in "$@"; do
+        [ -z "$read" ] || [ ! "$target" -ef "$read" ] || wrong "$option $target would overwrite what is read; give another file"
+    done
+    (set -C && : >"$target.$$") 2>/dev/null || wrong "$option $target cannot be written there; give a file in a folder that can be written"
 }
 
 long() { # NUMBER: its four bytes, high byte first
