@@ -127,8 +127,8 @@ differing_data() {
         END { printf "%d of %s bytes, the first at 0x%04X, the last at 0x%04X\n", NR, all, first, $1 - 1 }'
 }
 
-differing_shown() { # its lines are those of differing_data
-    echo 'the stretch that is shown is not the same'
+differing_shown() {
+    echo 'some of these bytes are in the stretch that is shown'
 }
 
 differing_entries() { # the first ten records that were entered at another tick
