@@ -42,6 +42,35 @@ shows_a_proof() {
     with_stand_in ./trace "$example" 2>"$work/said" | cmp -s - "${example%.in}.out" && grep -q 'tracing proved' "$work/said"
 }
 
+numbers_proofs() { # each crate that is proved now with its number among all that are needed, and none of the prover's own lines
+    stand_in 0 'rt: basis proved (unchanged since it was last proved)
+struct alu::Sum: proved
+fn alu::plus: proved
+library basis: modules loaded=10 checked=0
+logic=proved functions=8
+rt: alu proved (5 s)
+rt: ok, 2 crates proved'
+    with_stand_in ./trace "$example" 2>"$work/said" | cmp -s - "${example%.in}.out" && [ "$(cat "$work/said")" = "trace: 2 of $(crates_of trace): alu proved (5 s)" ]
+}
+
+crates_of() ( # PROGRAM...: how many crates they are made of, by tools/proved.sh
+    here=$root && . tools/proved.sh && echo $(($(needed "$@" | wc -l)))
+)
+
+counts_crates() ( # each once, with all that it is made of; what the kit has is not counted
+    here=$work/few_crates && mkdir -p "$here" && . tools/proved.sh
+    printf '# a list\ntop: io left right # both\nleft: base\nright: base left\nbase:\nother: base\n' >"$here/crates.txt"
+    [ "$(needed top | sort | tr '\n' ' ')" = 'base left right top ' ] && [ "$(needed left other | sort | tr '\n' ' ')" = 'base left other ' ]
+)
+
+announces_the_first() ( # how many crates, and how long that takes, before rt is asked; no word of it once the program is there
+    here=$work/few_crates name=first PATH=$work/bin:$PATH RATTLE_HOME=$kit && . tools/proved.sh
+    mkdir -p "$here/tools" && : >"$here/tools/proved.sh" && stand_in 0 'rt: ok, 4 crates proved'
+    bring_up top 2>"$work/said" && [ "$(cat "$work/said")" = 'first: this first time 4 crates are proved and the program is built, which takes about four minutes' ] || exit 1
+    mkdir -p "$here/target/bin" && : >"$here/target/bin/top" && chmod +x "$here/target/bin/top"
+    bring_up top 2>"$work/said" && [ ! -s "$work/said" ]
+)
+
 without_the_kit() { # COMMAND...: with no rt on PATH
     mkdir -p "$work/no_kit"
     for tool in dirname readlink; do ln -sf "$(command -v "$tool")" "$work/no_kit/$tool"; done
@@ -59,6 +88,12 @@ asks_each_time
 note $? './trace asks rt each time'
 shows_a_proof
 note $? './trace shows what is proved'
+numbers_proofs
+note $? './trace numbers what is proved'
+counts_crates
+note $? 'tools/proved.sh counts the crates of a program'
+announces_the_first
+note $? 'tools/proved.sh announces the first build'
 stand_in 1 'rt: tracing NOT PROVED'
 runs_nothing 'tracing NOT PROVED' with_stand_in ./trace "$example"
 note $? './trace where something is not proved'

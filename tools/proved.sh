@@ -32,7 +32,7 @@ make_work() { # the folder $work, which goes when the command ends
 bring_up() { # PROGRAM...: proves and builds what has changed, or stops; the first time takes long, and is announced
     crates=$(needed "$@" | wc -l)
     for program in "$@"; do
-        [ -x "$here/target/bin/$program" ] || { echo "$name: first $((crates)) crates are proved and the program is built, once; that takes about four minutes" >&2 && break; }
+        [ -x "$here/target/bin/$program" ] || { echo "$name: this first time $((crates)) crates are proved and the program is built, which takes about four minutes" >&2 && break; }
     done
     check "$@" || stop "not proved, so nothing is run"
     find_loader
