@@ -113,6 +113,16 @@ holds_the_cycles() { # a table that is what its rows say, and one with a number 
     ! tools/cycles "$made" >/dev/null
 }
 
+says_the_commit() { # of a folder with git, with and without changes, and of one without
+    rm -rf "$made"
+    mkdir -p "$made/tools" && cp tools/commit "$made/tools"
+    [ "$("$made/tools/commit")" = 'no git' ] || return 1
+    in_made="git -C $made -c user.name=x -c user.email=x"
+    git init -q "$made" && $in_made add . && $in_made commit -q -m x && [ "$("$made/tools/commit")" = "$($in_made rev-parse HEAD)" ] || return 1
+    echo '# changed' >>"$made/tools/commit"
+    [ "$("$made/tools/commit")" = "$($in_made rev-parse HEAD) with changes that are not committed" ]
+}
+
 for sample in tests/contracts/*.sample; do
     as_it_says "$sample"
     note $? "$sample"
@@ -131,3 +141,4 @@ holds_the_table
 note $? 'tools/forms'
 holds_the_cycles
 note $? 'tools/cycles'
+if there tools/commit git; then quietly tools/commit says_the_commit; fi

@@ -26,7 +26,7 @@ plain_file() { # FILE WHAT: stops where it cannot be read
 }
 
 take() { # FILE WHAT MOST COPY: copies it into $work, so that what is run is what is hashed
-    head -c $(($3 + 1)) <"$1" >"$work/$4" 2>/dev/null || wrong "cannot read $1; give a $2 that can be read"
+    head -c $(($3 + 1)) 2>/dev/null <"$1" >"$work/$4" || wrong "cannot read $1; give a $2 that can be read"
     [ "$(wc -c <"$work/$4")" -le "$3" ] || wrong "$1 is too long; a $2 has at most $(spaced "$3") bytes"
 }
 
@@ -35,8 +35,8 @@ check_out() { # OPTION FILE READ...: stops where FILE cannot be written, or is o
     shift 2
     [ ! -d "$target" ] || wrong "$option $target is a folder; give the name of a file"
     [ ! -e "$target" ] || { [ -f "$target" ] && [ -w "$target" ]; } || wrong "$option $target cannot be written; give another file"
-    for read in "$@"; do
-        [ -z "$read" ] || [ ! "$target" -ef "$read" ] || wrong "$option $target would overwrite what is read; give another file"
+    for other in "$@"; do
+        [ -z "$other" ] || [ ! "$target" -ef "$other" ] || wrong "$option $target would overwrite what is read; give another file"
     done
     (set -C && : >"$target.$$") 2>/dev/null || wrong "$option $target cannot be written there; give a file in a folder that can be written"
 }
@@ -68,25 +68,33 @@ take_step() { # RULE BUDGET: from $work/state on; leaves RULE.result, the next s
         [ -z "$broken" ] || return 1
         stop "the program rerun ended with status $ended"
     }
-    rule_of_step=$1
-    set -- $(od -An -v -tu1 -N 10 "$work/output")
+    set -- $(trap '' INT && settle "$1")
     case ${1-} in
-    0) ;;
-    2) wrong "$hex_name: $(hex_fault "$2" "$(number_of "$3" "$4" "$5" "$6")")" ;;
+    0) take_head "$@" && return ;;
+    2) wrong "$hex_name: $(hex_fault "$2" $(number_of "$3" "$4" "$5" "$6"))" ;;
     3) wrong "$schedule_name: line $(number_of "$3" "$4" "$5" "$6"): $(schedule_fault "$2"); correct that line" ;;
-    *)
-        [ -z "$broken" ] || return 1
-        stop "the program rerun did not take its input"
-        ;;
     esac
-    mv "$work/output" "$work/$rule_of_step.result"
-    read_result "$rule_of_step"
-    stretch "$rule_of_step" 2 $((46 + 4 * entered + data_bytes)) >"$work/state"
+    [ -z "$broken" ] || return 1
+    stop 'the program rerun did not take its input'
 }
 
-read_result() { # RULE: sets $answer, $ticks and $entered to what its result says
-    set -- $(stretch "$1" 0 10 | od -An -v -tu1)
-    answer=$2 ticks=$(number_of "$3" "$4" "$5" "$6") entered=$(number_of "$7" "$8" "$9" "${10}")
+settle() { # RULE: prints the first bytes of the output; that of a run becomes RULE.result, and its state the next
+    result=$1 bytes=$(od -An -v -tu1 -N 10 "$work/output")
+    set -- $bytes
+    [ "$1" != 0 ] || {
+        take_head "$@"
+        mv "$work/output" "$work/$result.result"
+        stretch "$result" 2 $((46 + 4 * entered + data_bytes)) >"$work/state"
+    }
+    echo $bytes
+}
+
+take_head() { # BYTES...: sets $answer, $ticks and $entered to what the first ten bytes of a result say
+    answer=$2 ticks=$(((($3 * 256 + $4) * 256 + $5) * 256 + $6)) entered=$(((($7 * 256 + $8) * 256 + $9) * 256 + ${10}))
+}
+
+read_result() { # RULE: the same of its result
+    take_head $(stretch "$1" 0 10 | od -An -v -tu1)
 }
 
 stretch() { # RULE FROM LENGTH: so many bytes of its result
