@@ -30,6 +30,13 @@ take() { # FILE WHAT MOST COPY: copies it into $work, so that what is run is wha
     [ "$(wc -c <"$work/$4")" -le "$3" ] || wrong "$1 is too long; a $2 has at most $(spaced "$3") bytes"
 }
 
+as_path() { # FILE: its name, such that no command takes it for an option
+    case $1 in
+    -*) printf '%s\n' "./$1" ;;
+    *) printf '%s\n' "$1" ;;
+    esac
+}
+
 check_out() { # OPTION FILE READ...: stops where FILE cannot be written, or is one of those that are read; makes the temporary $FILE.$$ beside it
     option=$1 target=$2
     shift 2
@@ -157,6 +164,7 @@ ending() { # ANSWER: how a run ended, by 01's table
     2) echo 'refused with 2: CALL, LDS, STS at PC 65,534; taken skip at PC 65,534, or at 65,533 over a two-word instruction' ;;
     3) echo 'refused with 3: entry, CALL, RCALL, ICALL with SP below 2; RET, RETI with SP above 65,533' ;;
     4) echo "refused with 4: a data byte needed isn't in data" ;;
-    *) echo 'refused with 5: busy above 4' ;;
+    5) echo 'refused with 5: busy above 4' ;;
+    *) echo 'no result' ;;
     esac
 }
