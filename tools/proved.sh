@@ -70,7 +70,7 @@ show_proofs() { # what rt says, on standard input: of $crates crates the number 
         'rt: '*' proved (unchanged since it was last proved)') proved=$((proved + 1)) ;;
         'rt: '*' proved ('*) proved=$((proved + 1)) && echo "$name: $proved of $((crates)): ${line#rt: }" ;;
         'rt: ok, '* | 'rt: '*', and wrote what its file '* | 'fn '*': proved' | 'struct '*': proved' | 'enum '*': proved') ;;
-        'logic '* | 'logic=proved '* | 'library '*': modules loaded='*) ;;
+        'logic '* | 'logic=proved '* | 'library '*': modules loaded='* | 'crate '*': modules loaded='* | 'axioms '* | 'linked '* | *': note: '*) ;;
         *) printf '%s\n' "$line" ;;
         esac
     done
