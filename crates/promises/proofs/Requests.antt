@@ -27,6 +27,9 @@ use Rattle.schedule.proofs.Laws.{schedules-are-ticks, numbers-written, empty-li
 use Rattle.schedule.proofs.InSteps.{runs-in-steps}
 use Rattle.schedule_text.proofs.Laws.{text-listed}
 use Rattle.schedule_text.proofs.Examples as texts
+use Rattle.rerunning.proofs.Whole.{whole-rerun}
+use Rattle.rerunning.proofs.Cut.{cut-rerun}
+use Rattle.rerunning.proofs.InSteps.{rerun-in-steps}
 use Rattle.table.proofs.Schedules.{schedule-calls-by-the-table}
 use Rattle.promises.proofs.Schedules.{schedules-leave-no-trace}
 use Rattle.promises.proofs.ScheduledStamps.{stamps-by-a-schedule}
@@ -77,4 +80,7 @@ requests =
       schedule-text = text-listed;
       schedule-text-examples = texts.examples;
       schedule-in-steps = runs-in-steps;
+      whole-rerun = whole-rerun;
+      cut-rerun = cut-rerun;
+      rerun-in-steps = rerun-in-steps;
     }

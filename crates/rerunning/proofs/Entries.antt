@@ -2,8 +2,8 @@
 -- Assumes nothing.
 use mathlib.Core.Path.{_≡_, refl, sym, ap, _∙_}
 use mathlib.Core.Bool.{Bool, true, false}
-use mathlib.Core.List.{List, [], _∷_, _++_}
-use Prim.Native.Nat.{ℕ, zero, suc, _+_, _*_, _/_, _≤_, _<_}
+use mathlib.Core.List.{List, [], _∷_, _++_, append-assoc}
+use Prim.Native.Nat.{ℕ, _+_, _*_, _/_, _≤_, _<_}
 use native.Mathlib.Numerals.{add-one}
 use native.Mathlib.Omega.{arith}
 use lib.Dec.{eqb}
@@ -44,10 +44,6 @@ module _ (e : List ℕ) (n : ℕ) (is : n ≡ length (enteredOf e)) where
   pub entered-few : n ≤ length e
   entered-few = let h = length-take (length (enteredOf e)) e in omega (arith, is, h, ap length (first e))
 
-joined : (a b c : List ℕ) → (a ++ b) ++ c ≡ a ++ (b ++ c)
-joined [] b c = refl
-joined (x ∷ a) b c = ap (λ (l : List ℕ). x ∷ l) (joined a b c)
-
 pub fours-none : fours [] ≡ []
 unfolding fours
 fours-none = refl
@@ -56,7 +52,7 @@ fours-none = refl
 pub fours-more : (e : List ℕ) (n : ℕ) → fours (e ++ (n ∷ [])) ≡ fours e ++ four n
 unfolding fours
 fours-more [] n = refl
-fours-more (x ∷ e) n = ap (λ (l : List ℕ). four x ++ l) (fours-more e n) ∙ sym (joined (four x) (fours e) (four n))
+fours-more (x ∷ e) n = ap (λ (l : List ℕ). four x ++ l) (fours-more e n) ∙ sym (append-assoc (four x) (fours e) (four n))
 
 pub fours-long : (e : List ℕ) → length (fours e) ≡ 4 * length e
 unfolding fours

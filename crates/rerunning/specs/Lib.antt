@@ -1,2 +1,3 @@
--- `Rerun`: what the program writes for its input.
+-- `Rerun`: what the program writes for its input. `Laws`: what is known of it.
 pub mod Rerun
+pub mod Laws

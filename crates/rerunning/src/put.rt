@@ -1,8 +1,6 @@
 // Numbers put into a buffer, four bytes each, high byte first.
 use page::put_byte;
-ghost use mathlib.Core.List.{[], _∷_, _++_};
-ghost use Prim.Native.Nat.{_≤_};
-ghost use lib.ListN.{take, length};
+ghost use mathlib.Core.List.{_∷_};
 ghost use Rattle.page.specs.Page.{page, Puts};
 ghost use Rattle.rerunning.specs.Rerun.{four, fours};
 

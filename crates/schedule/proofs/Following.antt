@@ -13,7 +13,7 @@ use Rattle.basis.specs.Bytes.{Bytes}
 use Rattle.basis.proofs.Choice.{clash, test}
 use Rattle.snapshot.specs.Snapshot.{readOf}
 use Rattle.tick.specs.declared.Offer.the-variants.{Nothing}
-use Rattle.run.specs.Over.{saidBy, runIn, RunsIn}
+use Rattle.run.specs.Over.{runIn, RunsIn}
 use Rattle.run.specs.declared.over.Over.{Over}
 use Rattle.schedule.specs.Schedule.{Record, recordAt, recordsFrom, recordsOf, rising, Scheduled, stopped, scheduled, numbersOf}
 use Rattle.schedule.specs.Follow.{restFrom, saidRun, Serves, Follows}

@@ -1,6 +1,6 @@
 -- A scheduled run taken up where its budget had ended.
 -- Assumes nothing.
-use mathlib.Core.Path.{_≡_, refl, sym, ap, _∙_}
+use mathlib.Core.Path.{_≡_, refl, ap, _∙_}
 use mathlib.Core.Bool.{Bool, true, false}
 use mathlib.Core.List.{List, [], _∷_, _++_}
 use Prim.Native.Nat.{ℕ, zero, suc, _+_}
@@ -9,7 +9,6 @@ use native.Mathlib.Omega.{arith}
 use lib.Dec.{eqb}
 use lib.ListN.{drop, length, replicate}
 use borrow.Author.Tests.{ne-eqb, eqb-false}
-use Rattle.cores.specs.declared.Core.{Core}
 use Rattle.tick.specs.Tick.{Tick, numberOf, refuses, stops, tickOf}
 use Rattle.schedule.specs.Schedule.{Record, offered, Scheduled, noted, scheduled}
 use Rattle.schedule.specs.Laws.{enteredOf, takenUp, RunsInSteps}

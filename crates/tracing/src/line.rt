@@ -3,7 +3,6 @@ use cores::Core;
 use page::put_byte;
 use page::put_text;
 use tick::Answer;
-ghost use mathlib.Core.Path.{_≡_};
 ghost use mathlib.Core.List.{[], _∷_};
 ghost use Rattle.basis.specs.Pick.{pick};
 ghost use Rattle.page.specs.Page.{page, Puts};

@@ -10,7 +10,8 @@ use Rattle.page.specs.Page.{page, Puts, Prints}
 use Rattle.page.proofs.Laid.{prints}
 use Rattle.rerunning.specs.declared.job.Job.{Job}
 use Rattle.rerunning.specs.Rerun.{jobOf, part, toldOf, writtenOf, rerunOf}
-use Rattle.rerunning.proofs.Parts.{Lies, lies, same-parts}
+use Rattle.rerunning.proofs.Parts.{same-parts}
+use Rattle.rerunning.proofs.Within.{Sized, Within, job-within}
 use Rattle.rerunning.proofs.rerun.Statement.{statement}
 use Rattle.rerunning.proofs.rerun.Tie as tie
 
@@ -25,8 +26,8 @@ module _ (c : tie.After-hex) where
   abbrev s : List ℕ
   s = start .args .input .now
 
-  inside : Lies (length s) (c .hex .given .0 .0) (c .hex .given .0 .1 .0) (c .hex .given .0 .1 .1 .0) (c .hex .given .0 .1 .1 .1 .1 .1 .0)
-  inside = lies s _ _ _ _ _ _ _ (c .before .before .job-of .ensures) (c .hex .given .1)
+  inside : Sized (c .hex .given .0 .0) (c .hex .given .0 .1 .0) (c .hex .given .0 .1 .1 .0) (c .hex .given .0 .1 .1 .1 .1 .1 .0) (length s)
+  inside = subst (λ (j : Job). Within (length s) j) (sym (c .before .before .job-of .ensures) ∙ c .hex .given .1) (job-within s)
 
 returns : tie.Need-returns
 returns c =
@@ -73,7 +74,7 @@ rerun-spec =
     (λ c. let i = inside (c .before .before .before .before .before .before) in search needs)
     (λ c κs.
     let i = inside (c .before .before .before .before .before .before .before) in
-    (rw (length-take, length-drop) (omega (arith, i .long)), rw (length-take, length-drop) (omega (arith, i .size, i .long))))
+    (rw (length-take, length-drop) (omega (arith, i .inside)), rw (length-take, length-drop) (omega (arith, i .size-le, i .inside))))
     (λ c. search needs)
     returns
     (λ c. search needs)

@@ -1,9 +1,9 @@
 -- `put_run`: core and data copied, so that the run may change them.
 -- Assumes nothing.
-use mathlib.Core.Path.{_≡_, sym, ap, _∙_}
+use mathlib.Core.Path.{_≡_, sym, ap}
 use mathlib.Core.List.{List}
 use Prim.Native.Nat.{ℕ}
-use lib.ListN.{take, length, replicate, length-replicate}
+use lib.ListN.{take, length, replicate}
 use borrow.Author.Needs.{needs}
 use Rattle.rerunning.proofs.Copied.{whole, start}
 use Rattle.rerunning.proofs.Run.{of-copies}
