@@ -29,7 +29,8 @@ use Rattle.schedule_text.proofs.Laws.{text-listed}
 use Rattle.schedule_text.proofs.Examples as texts
 use Rattle.rerunning.proofs.Whole.{whole-rerun}
 use Rattle.rerunning.proofs.Cut.{cut-rerun}
-use Rattle.rerunning.proofs.InSteps.{rerun-in-steps}
+use Rattle.rerunning.proofs.Joined.{joined-input}
+use Rattle.rerunning.proofs.Steps.{rerun-in-steps}
 use Rattle.table.proofs.Schedules.{schedule-calls-by-the-table}
 use Rattle.promises.proofs.Schedules.{schedules-leave-no-trace}
 use Rattle.promises.proofs.ScheduledStamps.{stamps-by-a-schedule}
@@ -82,5 +83,6 @@ requests =
       schedule-in-steps = runs-in-steps;
       whole-rerun = whole-rerun;
       cut-rerun = cut-rerun;
+      joined-input = joined-input;
       rerun-in-steps = rerun-in-steps;
     }

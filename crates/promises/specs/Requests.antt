@@ -11,7 +11,7 @@ use Rattle.table.specs.Schedules.{ScheduleCallsByTheTable}
 use Rattle.schedule.specs.Laws.{SchedulesAreTicks, NumbersWritten, EmptyListIsARun, SameScheduleUnderLargerBudget, RunsInSteps}
 use Rattle.schedule_text.specs.Laws.{TextListed}
 use Rattle.schedule_text.specs.Examples as texts
-use Rattle.rerunning.specs.Laws.{WholeRerun, CutRerun, RerunInSteps}
+use Rattle.rerunning.specs.Laws.{WholeRerun, CutRerun, JoinedInput, RerunInSteps}
 use Rattle.latency.specs.Entry.{EntryWithinEight, EntryBehindTheWaits, RunsEnterWithinEight, ScheduleEntersWithinEight, AtMostSevenLate}
 use Rattle.latency.specs.Examples.{EightIsTheFigure}
 use Rattle.latency.specs.Cycles.{TicksByTheTable, InstructionsRunForTheirTicks, ManualBeside}
@@ -92,7 +92,8 @@ pub record Requests : Type 0 where
   pub schedule-text-examples : texts.Examples
   -- crates/schedule/specs/Laws.antt: a run by a list, taken up where its budget had ended, is the run that the whole budget gives
   pub schedule-in-steps : RunsInSteps
-  -- crates/rerunning/specs/Laws.antt: the program's buffers cut off no output and no input that counts; a rerun in steps is the rerun
+  -- crates/rerunning/specs/Laws.antt: the program's buffers cut off no output and no input that counts; it reads the parts that are joined to an input; a rerun in steps is the rerun
   pub whole-rerun : WholeRerun
   pub cut-rerun : CutRerun
+  pub joined-input : JoinedInput
   pub rerun-in-steps : RerunInSteps

@@ -15,7 +15,7 @@ use Rattle.rerunning.specs.Rerun.{numberIn, jobOf, part, toldOf, written
 use Rattle.rerunning.specs.declared.job.Job.{Job}
 use Rattle.rerunning.specs.declared.job.Job.the-variants.{Bad, Run}
 use Rattle.rerunning.specs.Laws.{CutRerun}
-use Rattle.rerunning.proofs.Within.{Within, job-within}
+use Rattle.rerunning.proofs.Within.{job, Within, job-within}
 
 module _ (s : List ℕ) (n : ℕ) where
   number-cut : (at : ℕ) → at + 3 < n → numberIn (take n s) at ≡ numberIn s at
@@ -46,12 +46,6 @@ asks-less hex schedule size budget done entered n m false false false false f g 
     let asked = 62 + 4 * entered + size + hex + schedule in
     let few : asked ≤ 2424894 = omega (arith, ltb-false 1048576 hex f, ltb-false 1048576 schedule g, ltb-false 65536 size h, ltb-false 65536 entered i) in
     rw (le-ltb n asked (omega (arith, few, u)), le-ltb m asked (omega (arith, few, v)))
-
--- the job by its numbers
-abbrev job : ℕ → ℕ → ℕ → ℕ → ℕ → ℕ → ℕ → Job
-job n hex schedule size budget done entered =
-    pick (ltb 1048576 hex || ltb 1048576 schedule || ltb 65536 size || ltb 65536 entered) Bad
-    (pick (ltb n (62 + 4 * entered + size + hex + schedule)) Bad (Run hex schedule size budget done entered))
 
 module _ (s : List ℕ) (n : ℕ) (h : 2424894 ≤ n) (l : n ≤ length s) where
   job-cut : jobOf (take n s) ≡ jobOf s

@@ -21,8 +21,7 @@ use Rattle.schedule.specs.Laws.{enteredOf}
 use Rattle.schedule.proofs.InSteps.{runs-in-steps}
 use Rattle.hex.specs.Reading as hex
 use Rattle.schedule_text.specs.Reading as text
-use Rattle.rerunning.specs.Rerun.{State, manyOf, four, fours, stateOf, nextOf, ranOf, imageOf}
-use Rattle.rerunning.specs.Laws.{RerunInSteps}
+use Rattle.rerunning.specs.Rerun.{State, manyOf, four, fours, stateOf, afterOf, nextOf, ranOf, imageOf, toldOf}
 use Rattle.rerunning.proofs.Entries.{many-more}
 use Rattle.rerunning.proofs.Kept.{Vectors, kept, spent-count}
 use Rattle.rerunning.proofs.Image.{program-bytes, zeros-bytes}
@@ -135,9 +134,10 @@ module _ (p r : List ℕ) (ds : List Record) (n : ℕ) (bp : Bytes p) (listed : 
     in-steps : ranOf (nextOf z (runs b z)) r (runs c (nextOf z (runs b z))) ≡ ranOf z r (runs c z)
     in-steps = subst (λ (v : ScheduleIn). ranOf (nextOf z v) r (runs c (nextOf z v)) ≡ ranOf z r (runs c z)) (sym first) onward
 
--- ---- the theorem, whether a text is refused or not
-pub rerun-in-steps : RerunInSteps
-rerun-in-steps b c z t l less bs bm h =
+-- ---- all that is told, whether a text is refused or not
+pub told-in-steps : (b c : ℕ) (z : State) (t l : List ℕ) → b ≤ c → Bytes (z .core) → Bytes (z .bytes)
+    → let x = afterOf b z (imageOf t) (text.bytesOf (text.readOf l 65536 .records)) in x .run .answer ≡ 24 → toldOf c (nextOf z x) t l ≡ toldOf c z t l
+told-in-steps b c z t l less bs bm h =
     let image = hex.readOf t 49152 in
     let list = text.readOf l 65536 in
     ap (λ (u : List ℕ). pick (eqb (image .refusal) 0) (pick (eqb (list .fault) 0) u (3 ∷ list .fault ∷ four (list .line))) (2 ∷ image .refusal ∷ four (image .line)))

@@ -4,7 +4,7 @@
 use mathlib.Core.Path.{_≡_, refl, sym, ap, _∙_}
 use mathlib.Core.Bool.{Bool, true, false}
 use mathlib.Core.List.{List, [], _∷_}
-use Prim.Native.Nat.{ℕ, zero, suc, _+_, _*_, _<_}
+use Prim.Native.Nat.{ℕ, zero, suc, _+_, _*_, _≤_, _<_}
 use native.Mathlib.Omega.{arith}
 use lib.Dec.{eqb, leb}
 use lib.ListN.{drop, length, length-replicate}
@@ -81,6 +81,21 @@ counted (suc left) j many is k p m ds h =
 
 pub spent-count : (left j : ℕ) (k : Core) (p m : List ℕ) (ds : List Record) → scheduled left j k p m ds .run .answer ≡ 24 → scheduled left j k p m ds .run .count ≡ j + left
 spent-count left j k p m ds h = counted left j (j + left) refl k p m ds h
+
+-- and of any
+most-by : (r s e : Bool) (j left : ℕ) (t : Tick) (ds : List Record) (x y : Scheduled) → x .run .count ≤ suc j + left → y .run .count ≤ suc j + left → stepBy r s e j t ds x y .run .count ≤ j + suc left
+most-by true s e j left t ds x y f g = omega arith
+most-by false true e j left t ds x y f g = omega arith
+most-by false false true j left t ds x y f g = omega (arith, f)
+most-by false false false j left t ds x y f g = omega (arith, g)
+
+pub most-count : (left j : ℕ) (k : Core) (p m : List ℕ) (ds : List Record) → scheduled left j k p m ds .run .count ≤ j + left
+unfolding scheduled
+most-count zero j k p m ds = omega arith
+most-count (suc left) j k p m ds =
+    let t = tickOf k p m (offered (suc j) ds) in
+    most-by (refuses (t .answer)) (stops (t .answer)) (eqb (numberOf (t .answer)) 17) j left t ds (scheduled left (suc j) (t .core) p (t .bytes) (drop 1 ds)) (scheduled left (suc j) (t .core) p (t .bytes) ds)
+    (most-count left (suc j) (t .core) p (t .bytes) (drop 1 ds)) (most-count left (suc j) (t .core) p (t .bytes) ds)
 
 -- ---- the numbers
 entries-by : (r s e : Bool) (j : ℕ) (t : Tick) (ds : List Record) (x y : Scheduled) → (e ≡ true → suc (length (x .entries)) ≡ length ds)

@@ -28,22 +28,23 @@ use Rattle.rerunning.specs.declared.job.Job.the-variants.{Bad, Run}
 use Rattle.rerunning.specs.Laws.{WholeRerun}
 use Rattle.rerunning.proofs.Entries.{entered-few, fours-long}
 use Rattle.rerunning.proofs.Image.{take-bytes, drop-bytes, program-bytes, zeros-bytes}
-use Rattle.rerunning.proofs.Kept.{Vectors, kept, many-entries}
+use Rattle.rerunning.proofs.Kept.{Vectors, kept, most-count, many-entries}
 use Rattle.rerunning.proofs.Listed.{ds, r, listed, vectors}
 use Rattle.rerunning.proofs.Given.{given, only-zeros, entered-numbers}
 use Rattle.rerunning.proofs.Within.{Within, job-within}
 
--- ---- how long is what the run gives; `few` are the records that are not entered
-record Short (m : List ℕ) (few : ℕ) (x : ScheduleIn) : Type 0 where
-  snapshot : length (x .run .snapshot) ≡ 38
-  bytes : length (x .run .bytes) ≡ length m
-  new : length (enteredOf (x .numbers)) ≤ few
+-- ---- how long is what the run gives; `few` are the records that are not entered, and `most` its ticks
+pub record Short (m : List ℕ) (few most : ℕ) (x : ScheduleIn) : Type 0 where
+  pub snapshot : length (x .run .snapshot) ≡ 38
+  pub bytes : length (x .run .bytes) ≡ length m
+  pub new : length (enteredOf (x .numbers)) ≤ few
+  pub count : x .run .count ≤ most
 
 first-zero : (q w : ℕ) → pick (eqb q 0) w q ≡ 0 → q ≡ 0
 first-zero q w h = test (eqb q 0) (λ e. eqb-true q 0 e) (λ e. rw e at h)
 
 module _ (s p m l : List ℕ) (done left n : ℕ) (is38 : length s ≡ 38) (bs : Bytes s) (bp : Bytes p) (bm : Bytes m) (v : Vectors (recordsOf l)) where
-  passes : readOf s .refusal ≡ 0 → Short m (length (recordsOf l)) (given (scheduled left done (saidBy s) p m (recordsOf l)) s (replicate n 0))
+  passes : readOf s .refusal ≡ 0 → Short m (length (recordsOf l)) (done + left) (given (scheduled left done (saidBy s) p m (recordsOf l)) s (replicate n 0))
   passes none =
       let x = scheduled left done (saidBy s) p m (recordsOf l) in
       let h = kept left done (saidBy s) p m (recordsOf l) (said-sound s bs none) bp bm v in
@@ -54,24 +55,25 @@ module _ (s p m l : List ℕ) (done left n : ℕ) (is38 : length s ≡ 38) (bs :
         snapshot = long (writeOf (x .run .core) s .bytes) (ap (λ q. q .refusal) (reading-undoes-writing (x .run .core) s (h .core) is38));
         bytes = h .same-length;
         new = omega (arith, few, many, new);
+        count = most-count left done (saidBy s) p m (recordsOf l);
       }
 
-  short : Short m (length (recordsOf l)) (scheduleFrom s p m l done left (replicate n 0))
+  short : Short m (length (recordsOf l)) (done + left) (scheduleFrom s p m l done left (replicate n 0))
   short =
       let room : ℕ = length {A = ℕ} (replicate n 0) in
       let refusal = refusalIn s l room in
-      cases (Short m (length (recordsOf l))) (eqb refusal 0) (given (scheduled left done (saidBy s) p m (recordsOf l)) s (replicate n 0))
+      cases (Short m (length (recordsOf l)) (done + left)) (eqb refusal 0) (given (scheduled left done (saidBy s) p m (recordsOf l)) s (replicate n 0))
       (record { run = record { answer = refusal; count = done; snapshot = s; bytes = m }; numbers = replicate n 0 })
       (λ e. passes (first-zero (readOf s .refusal) (refusalOf l room) (eqb-true refusal 0 e)))
-      λ e. let none = ap length (only-zeros n 0) in record { snapshot = is38; bytes = refl; new = omega (arith, none) }
+      λ e. let none = ap length (only-zeros n 0) in record { snapshot = is38; bytes = refl; new = omega (arith, none); count = omega arith }
 
 -- ---- and the output
 state-long : (z : State) → length (stateOf z) ≡ 8 + length (z .core) + length (z .entered) + length (z .bytes)
 state-long z = rw (length-append, length-append) (omega arith)
 
-ran-short : (z : State) (r : List ℕ) (x : ScheduleIn) (many few : ℕ) → Short (z .bytes) (few - manyOf z) x → length (z .entered) ≡ 4 * many → many ≤ 65536 → length (z .bytes) ≤ 65536
+ran-short : (z : State) (r : List ℕ) (x : ScheduleIn) (many few most : ℕ) → Short (z .bytes) (few - manyOf z) most x → length (z .entered) ≡ 4 * many → many ≤ 65536 → length (z .bytes) ≤ 65536
     → few ≤ 65536 → length r ≡ 5 * few → length (ranOf z r x) ≤ 655408
-ran-short z r x many few h is le size most five =
+ran-short z r x many few most h is le size some five =
     let core = h .snapshot in
     let bytes = h .bytes in
     let new = h .new in
@@ -79,19 +81,23 @@ ran-short z r x many few h is le size most five =
     let both = length-append (z .entered) (fours (enteredOf (x .numbers))) in
     let all = state-long (nextOf z x) in
     let with = length-append (stateOf (nextOf z x)) r in
-    omega (arith, core, bytes, new, more, both, all, with, is, le, size, most, five)
+    omega (arith, core, bytes, new, more, both, all, with, is, le, size, some, five)
 
-module _ (b : ℕ) (z : State) (t l : List ℕ) (many : ℕ) (is38 : length (z .core) ≡ 38) (bs : Bytes (z .core)) (bm : Bytes (z .bytes)) (is : length (z .entered) ≡ 4 * many) (le : many ≤ 65536)
-    (size : length (z .bytes) ≤ 65536) where
-  gone-short : length (goneOn b z (imageOf t) (r l 65536)) ≤ 655408
-  gone-short =
+module _ (b : ℕ) (z : State) (t l : List ℕ) (is38 : length (z .core) ≡ 38) (bs : Bytes (z .core)) (bm : Bytes (z .bytes)) where
+  pub run-short : Short (z .bytes) (length (ds l 65536) - manyOf z) (z .done + (b - z .done)) (afterOf b z (imageOf t) (r l 65536))
+  run-short =
       let k = manyOf z in
       let here = listed l 65536 k in
       let some : length (recordsOf (drop (k * 5) (r l 65536))) ≡ length (ds l 65536) - k = ap length here ∙ length-drop k (ds l 65536) in
       let h = short (z .core) (imageOf t) (z .bytes) (drop (k * 5) (r l 65536)) (z .done) (b - z .done) 65536 is38 bs (program-bytes t (replicate 49152 0) (zeros-bytes 49152)) bm
       (subst Vectors (sym here) (vectors l 65536 k)) in
-      ran-short z (r l 65536) (afterOf b z (imageOf t) (r l 65536)) many (length (ds l 65536)) (subst (λ (few : ℕ). Short (z .bytes) few (afterOf b z (imageOf t) (r l 65536))) some h) is le size
-      (text-listed l 65536 0 .few) (bytes-length (ds l 65536))
+      subst (λ (few : ℕ). Short (z .bytes) few (z .done + (b - z .done)) (afterOf b z (imageOf t) (r l 65536))) some h
+
+module _ (b : ℕ) (z : State) (t l : List ℕ) (many : ℕ) (is38 : length (z .core) ≡ 38) (bs : Bytes (z .core)) (bm : Bytes (z .bytes)) (is : length (z .entered) ≡ 4 * many) (le : many ≤ 65536)
+    (size : length (z .bytes) ≤ 65536) where
+  gone-short : length (goneOn b z (imageOf t) (r l 65536)) ≤ 655408
+  gone-short =
+      ran-short z (r l 65536) (afterOf b z (imageOf t) (r l 65536)) many (length (ds l 65536)) (z .done + (b - z .done)) (run-short b z t l is38 bs bm) is le size (text-listed l 65536 0 .few) (bytes-length (ds l 65536))
 
   told-short : length (toldOf b z t l) ≤ 655408
   told-short =

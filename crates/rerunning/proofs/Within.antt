@@ -12,6 +12,12 @@ use Rattle.rerunning.specs.Rerun.{numberIn, jobOf}
 use Rattle.rerunning.specs.declared.job.Job.{Job}
 use Rattle.rerunning.specs.declared.job.Job.the-variants.{Bad, Run}
 
+-- the job by its numbers
+abbrev pub job : ℕ → ℕ → ℕ → ℕ → ℕ → ℕ → ℕ → Job
+job n hex schedule size budget done entered =
+    pick (ltb 1048576 hex || ltb 1048576 schedule || ltb 65536 size || ltb 65536 entered) Bad
+    (pick (ltb n (62 + 4 * entered + size + hex + schedule)) Bad (Run hex schedule size budget done entered))
+
 pub record Sized (hex schedule size entered n : ℕ) : Type 0 where
   pub hex-le : hex ≤ 1048576
   pub schedule-le : schedule ≤ 1048576
