@@ -1,4 +1,4 @@
--- docs/RERUN.md, "The program": what `rerun` writes for its input.
+-- docs/RERUN.md, "The program": what `rerun` writes for its input. The quotes are that page's.
 -- s is the input, n a number, t the text of a HEX file, l the text of a schedule, z the state of a run, b its budget, p a program, r the bytes of a list of records, x what the run gives.
 use mathlib.Core.Bool.{_||_}
 use mathlib.Core.List.{List, [], _∷_, _++_}
@@ -24,8 +24,8 @@ unfoldable pub fours : List ℕ → List ℕ
 fours [] = []
 fours (n ∷ ns) = four n ++ fours ns
 
--- ---- the input: "the bytes of the HEX text, of the schedule and of data, and the budget"; then the state: "ticks done, records entered", and behind the core "for each of them the tick of its
--- entry, then data". "At most 1,048,576 bytes of either text, 65,536 of data and 65,536 records; above that, or where the input is shorter than its numbers say, it is bad input"
+-- ---- the input: at 0 "the bytes of the HEX text, at most 1,048,576", at 4 "the bytes of the schedule's text, at most 1,048,576", at 8 "the bytes of data, at most 65,536", at 12 "the budget", at 16
+-- "how many ticks are done", at 20 "how many records are entered, at most 65,536"; bad where "a number is above its limit, or the input is shorter than its numbers say"
 abbrev pub jobOf : List ℕ → Job
 jobOf s =
     let hex = numberIn s 0 in
@@ -39,7 +39,7 @@ jobOf s =
 abbrev pub part : List ℕ → ℕ → ℕ → List ℕ
 part s at size = take size (drop at s)
 
--- ---- the state of a run: ticks done, the core's 38 bytes, the ticks of the entries as numbers of four bytes, and data
+-- ---- the state of a run, from byte 16 of the input on: the ticks done, "the core, a snapshot of 38 bytes", "for each record entered the tick of its entry, a number each", and data
 pub record State : Type 0 where
   pub done : ℕ
   pub core : List ℕ
@@ -57,22 +57,22 @@ stateOf z = four (z .done) ++ four (manyOf z) ++ z .core ++ z .entered ++ z .byt
 abbrev pub afterOf : ℕ → State → List ℕ → List ℕ → ScheduleIn
 afterOf b z p r = scheduleFrom (z .core) p (z .bytes) (drop (manyOf z * 5) r) (z .done) (b - z .done) (replicate 65536 0)
 
--- the state that it leads to: "entries are added behind those that were there"
+-- the state that it leads to; its entries stand behind those that were there
 abbrev pub nextOf : State → ScheduleIn → State
 nextOf z x = record { done = x .run .count; core = x .run .snapshot; entered = z .entered ++ fours (enteredOf (x .numbers)); bytes = x .run .bytes }
 
--- ---- the output: "0, the answer, the state, and the list of all records"
+-- ---- the output: "0, A, state, list": 0, 01's number, "the state as it stands in the input from byte 16 on, up to the data; and the list"
 abbrev pub ranOf : State → List ℕ → ScheduleIn → List ℕ
 ranOf z r x = 0 ∷ x .run .answer ∷ (stateOf (nextOf z x) ++ r)
 
 abbrev pub goneOn : ℕ → State → List ℕ → List ℕ → List ℕ
 goneOn b z p r = ranOf z r (afterOf b z p r)
 
--- "The program is 49,152 bytes, 0xFF where no line speaks"
+-- "The program's image is 49,152 bytes, 0xFF where no line speaks"
 abbrev pub imageOf : List ℕ → List ℕ
 imageOf t = hex.programOf t (replicate 49152 0)
 
--- "2, the refusal and its line, where the HEX text is refused; 3, the fault and its line, where the schedule is"
+-- "2, N, line": "the HEX text is refused with N"; "3, N, line": "the schedule is refused at that line"; lines are numbers
 abbrev pub toldOf : ℕ → State → List ℕ → List ℕ → List ℕ
 toldOf b z t l =
     let image = hex.readOf t 49152 in
@@ -81,7 +81,7 @@ toldOf b z t l =
     (pick (eqb (list .fault) 0) (goneOn b z (imageOf t) (bytesOf (list .records))) (3 ∷ list .fault ∷ four (list .line)))
     (2 ∷ image .refusal ∷ four (image .line))
 
--- "1: bad input"
+-- "1": bad input; behind the entries stand "data, the HEX text, the schedule's text"
 abbrev pub writtenOf : Job → List ℕ → List ℕ
 writtenOf Bad s = 1 ∷ []
 writtenOf (Run hex schedule size budget done entered) s =

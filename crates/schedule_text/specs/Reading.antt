@@ -1,6 +1,6 @@
--- docs/RERUN.md, "A schedule": a text, the records that it says, and the first line that is wrong.
--- t is a text, l a line or what is left of one, c a character, n the number of a line, d a record, ds are records, x is what reading tells; `last` is the tick of the record before, 0 in front of
--- the first, and `room` how many records more there is room for.
+-- docs/RERUN.md, "A schedule" and, of the faults, "The program": a text, the records that it says, and the first line that is wrong. The quotes are that page's.
+-- t is a text, l a line or what is left of one, c a character, n the number of a line, d a record, ds are records, x is what reading tells, e the bytes of a list that is lent; `last` is the tick of
+-- the record before, 0 in front of the first, and `room` how many records more there is room for.
 use mathlib.Core.Bool.{Bool, true, false, _&&_, _||_}
 use mathlib.Core.List.{List, [], _∷_, _++_}
 use Prim.Native.Nat.{ℕ, zero, suc, _+_, _*_, _-_, _/_, _%_}
@@ -14,7 +14,7 @@ use Rattle.schedule_text.specs.declared.line.Said.the-variants.{Nothing,
 use Rattle.schedule_text.specs.declared.number.Number.{Number}
 use Rattle.schedule_text.specs.declared.Outcome.{Outcome}
 
--- ---- "a number is decimal, or hex behind 0x, and has one to eight digits"
+-- ---- "two numbers, decimal or as 0x10, of one to eight digits"
 -- what a digit is worth, in either case; 99 of what is none
 abbrev among : ℕ → ℕ → ℕ → Bool
 among first last c = leb first c && leb c last
@@ -24,16 +24,15 @@ worth c = pick (among 48 57 c) (c - 48) (pick (among 65 70 c) (c - 55) (pick (am
 
 -- the digits that stand in front, at most so many: what they say behind a value, and how many they are with those before
 unfoldable pub digitsFrom : ℕ → ℕ → ℕ → ℕ → List ℕ → Number
-digitsFrom zero base value length l = record { value = value; length = length }
-digitsFrom (suc left) base value length [] = record { value = value; length = length }
-digitsFrom (suc left) base value length (c ∷ l) =
-    pick (ltb (worth c) base) (digitsFrom left base (value * base + worth c) (length + 1) l) (record { value = value; length = length })
+digitsFrom zero base value many l = record { value = value; length = many }
+digitsFrom (suc left) base value many [] = record { value = value; length = many }
+digitsFrom (suc left) base value many (c ∷ l) = pick (ltb (worth c) base) (digitsFrom left base (value * base + worth c) (many + 1) l) (record { value = value; length = many })
 
 -- "0x" or "0X" stands in front
 abbrev pub startsHex : List ℕ → Bool
 startsHex [] = false
 startsHex (c ∷ []) = false
-startsHex (c ∷ d ∷ l) = eqb c 48 && (eqb d 120 || eqb d 88)
+startsHex (c ∷ sign ∷ l) = eqb c 48 && (eqb sign 120 || eqb sign 88)
 
 -- the number in front of l, and how many characters it takes; 0 where there is none
 abbrev pub numberOf : List ℕ → Number
@@ -41,13 +40,13 @@ numberOf l =
     let hex = digitsFrom 8 16 0 0 (drop 2 l) in
     pick (startsHex l) (record { value = hex .value; length = pick (ltb 0 (hex .length)) (hex .length + 2) 0 }) (digitsFrom 8 10 0 0 l)
 
--- ---- "a line is TICK VECTOR, with blanks in front, between and behind; a `#` begins a remark; a line of blanks or a remark alone says nothing"
+-- ---- "A record is a line of two numbers, .. with blanks or tabs between", and in front and behind where there are any
 -- how many blanks and tabs stand in front
 unfoldable pub blanks : List ℕ → ℕ
 blanks [] = 0
 blanks (c ∷ l) = pick (eqb c 32 || eqb c 9) (suc (blanks l)) 0
 
--- the line ends here, or in a remark
+-- "What stands behind `#` is not read": the line ends here, or in a remark
 abbrev pub isOver : List ℕ → Bool
 isOver [] = true
 isOver (c ∷ l) = eqb c 35
@@ -56,16 +55,17 @@ isOver (c ∷ l) = eqb c 35
 abbrev pub firingOf : List ℕ → Said
 firingOf l =
     let tick = numberOf l in
-    let behind = drop (tick .length) l in
-    let second = drop (blanks behind) behind in
+    let past = drop (tick .length) l in
+    let second = drop (blanks past) past in
     let vector = numberOf second in
     let rest = drop (vector .length) second in
-    pick (ltb 0 (tick .length) && ltb 0 (blanks behind) && ltb 0 (vector .length) && isOver (drop (blanks rest) rest)) (Firing (tick .value) (vector .value)) Wrong
+    pick (ltb 0 (tick .length) && ltb 0 (blanks past) && ltb 0 (vector .length) && isOver (drop (blanks rest) rest)) (Firing (tick .value) (vector .value)) Wrong
 
+-- "lines may be empty"
 unfoldable pub lineOf : List ℕ → Said
 lineOf l = let bare = drop (blanks l) l in pick (isOver bare) Nothing (firingOf bare)
 
--- ---- the faults of a record: "2 the tick is 0 or above 16,777,215, 3 it is not above the one before, 4 the vector is above 65,535, 5 there are more than there is room for"; 0 is none
+-- ---- the faults of a record: "2 a tick that is 0 or above 16,777,215, 3 a tick not above the one before, 4 a vector above 65,535, 5 more than 65,536 records", which is the room there; 0 is none
 abbrev pub faultOf : ℕ → ℕ → ℕ → ℕ → ℕ
 faultOf tick vector last room = pick (eqb tick 0 || ltb 16777215 tick) 2 (pick (leb tick last) 3 (pick (ltb 65535 vector) 4 (pick (eqb room 0) 5 0)))
 
@@ -82,7 +82,7 @@ told fault line = record { fault = fault; line = line; records = [] }
 abbrev pub behind : Record → Told → Told
 behind d x = record { fault = x .fault; line = x .line; records = d ∷ x .records }
 
--- "the first wrong line is named": 1 is a line of another form
+-- "the schedule is refused at that line": the first that is wrong; "1 no `TICK VECTOR`"
 unfoldable pub readFrom : ℕ → ℕ → ℕ → List (List ℕ) → Told
 readFrom room n last [] = told 0 0
 readFrom room n last (l ∷ ls) =
@@ -92,7 +92,7 @@ readFrom room n last (l ∷ ls) =
       | Firing tick vector ↦ pick (eqb (faultOf tick vector last room) 0) (behind (record { tick = tick; vector = vector }) (readFrom (room - 1) (n + 1) tick ls)) (told (faultOf tick vector last room) n)
     ]
 
--- lines are W1's, "counted from 1"
+-- lines "end in LF or CR LF", as W1's do, and are counted from 1
 abbrev pub readOf : List ℕ → ℕ → Told
 readOf t room = readFrom room 1 0 (linesOf t)
 
@@ -104,7 +104,7 @@ unfoldable pub bytesOf : List Record → List ℕ
 bytesOf [] = []
 bytesOf (d ∷ ds) = fiveOf d ++ bytesOf ds
 
--- what the call answers, and what it leaves in a list e that is lent to it: "the records in front of the wrong line; bytes behind them keep what they held"
+-- ---- the call: what it answers, and what it leaves in a list: the records in front of the wrong line; bytes behind them keep what they held
 abbrev pub outcomeOf : List ℕ → ℕ → Outcome
 outcomeOf t size = let x = readOf t (size / 5) in record { fault = x .fault; line = x .line; records = length (x .records) }
 
