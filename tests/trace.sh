@@ -66,7 +66,7 @@ counts_crates() ( # each once, with all that it is made of; what the kit has is 
 announces_the_first() ( # how many crates, and how long that takes, before rt is asked; no word of it once the program is there
     here=$work/few_crates name=first PATH=$work/bin:$PATH RATTLE_HOME=$kit && . tools/proved.sh
     mkdir -p "$here/tools" && : >"$here/tools/proved.sh" && stand_in 0 'rt: ok, 4 crates proved'
-    bring_up top 2>"$work/said" && [ "$(cat "$work/said")" = 'first: this first time 4 crates are proved and the program is built, which takes about four minutes' ] || exit 1
+    bring_up top 2>"$work/said" && [ "$(cat "$work/said")" = 'first: this first time 4 crates are proved and the program is built, which takes about 2 minutes' ] || exit 1
     mkdir -p "$here/target/bin" && : >"$here/target/bin/top" && chmod +x "$here/target/bin/top"
     bring_up top 2>"$work/said" && [ ! -s "$work/said" ]
 )

@@ -1,6 +1,7 @@
 # What the commands that run proved programs share. A command reads this file with `here` as the repository's folder and `name` as its own name.
 image_bytes=49152 # the longest program that trace takes, and what unhex writes
 kit_loader=''     # as find_loader sets it
+crate_seconds=20  # what a crate takes to prove, on two cores: 22 took 7 min 47 s
 
 stop() { # TEXT: says why nothing is run
     printf '%s\n' "$name: $*" >&2
@@ -32,7 +33,7 @@ make_work() { # the folder $work, which goes when the command ends
 bring_up() { # PROGRAM...: proves and builds what has changed, or stops; the first time takes long, and is announced
     crates=$(needed "$@" | wc -l)
     for program in "$@"; do
-        [ -x "$here/target/bin/$program" ] || { echo "$name: this first time $((crates)) crates are proved and the program is built, which takes about four minutes" >&2 && break; }
+        [ -x "$here/target/bin/$program" ] || { echo "$name: this first time $((crates)) crates are proved and the program is built, which takes about $(((crates * crate_seconds + 59) / 60)) minutes" >&2 && break; }
     done
     check "$@" || stop "not proved, so nothing is run"
     find_loader
@@ -70,7 +71,7 @@ show_proofs() { # what rt says, on standard input: of $crates crates the number 
         'rt: '*' proved (unchanged since it was last proved)') proved=$((proved + 1)) ;;
         'rt: '*' proved ('*) proved=$((proved + 1)) && echo "$name: $proved of $((crates)): ${line#rt: }" ;;
         'rt: ok, '* | 'rt: '*', and wrote what its file '* | 'fn '*': proved' | 'struct '*': proved' | 'enum '*': proved') ;;
-        'logic '* | 'logic=proved '* | 'library '*': modules loaded='* | 'crate '*': modules loaded='* | 'axioms '* | 'linked '* | *': note: '*) ;;
+        'logic '* | 'logic=proved '* | 'library '*': modules loaded='* | 'crate '*': modules loaded='* | 'axioms '* | 'linked '* | *': note: '* | 'note: no function with a body '*) ;;
         *) printf '%s\n' "$line" ;;
         esac
     done
