@@ -1,6 +1,6 @@
 # What ./rerun and firmware/index share: the program `rerun` (docs/RERUN.md), driven in steps. Read behind tools/proved.sh, with `name` as the command's name.
 # The folder $work has a run's texts and data as `hex`, `schedule` and `data`; what the last whole step of a run wrote is `RULE.result`.
-step=$(value "${RERUN_STEP:-50000000}" 4294967295) # ticks of a step, about a quarter of a second; tests take smaller ones by RERUN_STEP
+step=$(value "${RERUN_STEP:-50000000}" 4294967295) # ticks of a step, about a tenth of a second; tests take smaller ones by RERUN_STEP
 [ "${step:-0}" -gt 0 ] || step=50000000
 text_most=1048576 data_most=65536
 broken='' # yes once Ctrl-C was pressed

@@ -3,10 +3,11 @@
 use mathlib.Core.Path.{_≡_, refl, ap, _∙_}
 use mathlib.Core.Bool.{Bool, true, false}
 use mathlib.Core.List.{List, [], _∷_, _++_}
-use Prim.Native.Nat.{ℕ, suc, _+_, min}
+use Prim.Native.Nat.{ℕ, suc, _+_, _≤_, min}
 use native.Mathlib.Omega.{arith}
 use lib.Dec.{leb·suc-suc}
 use lib.ListN.{length, take, drop, length-take}
+use lib.Seq.{take-all, take-at}
 use borrow.Author.Tests.{lt-ltb}
 use Rattle.basis.specs.Pick.{pick}
 use Rattle.page.specs.Page.{Page, page, withByte, withText, Puts, Prints}
@@ -58,3 +59,9 @@ prints {t} {d} p =
     let is = p .is ∙ from-start t d in
     let count : length (take (length d) t) ≡ min (length t) (length d) = rw length-take (omega arith) in
     record { count = ap (λ (g : Page). g .at) is ∙ count; bytes = ap (λ (g : Page). g .bytes) is }
+
+-- a buffer with room for it has the whole text
+pub in-front : (t d o : List ℕ) (n : ℕ) → length t ≤ length d → Prints t d n o → take n o ≡ t
+in-front t d o n h p =
+    let e : n ≡ length t = omega arith in
+    rw (p .bytes, take-all (length d) t h, e) (take-at t (drop (length t) d) (length t) refl)

@@ -5,8 +5,8 @@ use mathlib.Core.List.{List, _∷_}
 use Prim.Native.Nat.{ℕ, _+_, _*_, _-_, _≤_}
 use native.Mathlib.Omega.{arith}
 use lib.Dec.{eqb}
-use lib.ListN.{length, take, drop, replicate, length-append, length-drop}
-use lib.Seq.{length-take-le, take-all, take-at}
+use lib.ListN.{length, drop, replicate, length-append, length-drop}
+use lib.Seq.{length-take-le}
 use borrow.Author.Tests.{eqb-true}
 use Rattle.basis.specs.Pick.{pick}
 use Rattle.basis.specs.Bytes.{Bytes}
@@ -16,7 +16,7 @@ use Rattle.snapshot.proofs.RoundTrips.{reading-undoes-writing}
 use Rattle.run.specs.Over.{saidBy}
 use Rattle.run.proofs.Stretched.{long}
 use Rattle.run.proofs.Turns.{said-sound}
-use Rattle.page.specs.Page.{Prints}
+use Rattle.page.proofs.Laid.{in-front}
 use Rattle.schedule.specs.Schedule.{recordsOf, refusalOf, scheduled, refusalIn, ScheduleIn, scheduleFrom}
 use Rattle.schedule.specs.Laws.{enteredOf}
 use Rattle.hex.specs.Reading as hex
@@ -119,11 +119,6 @@ written-short (Run hex schedule size budget done entered) s b w =
     let bytes = part-long s at size (omega arith) in
     told-short budget (record { done = done; core = part s 24 38; entered = part s 62 (4 * entered); bytes = part s at size }) (part s (at + size) hex) (part s (at + size + hex) schedule) entered
     (part-long s 24 38 (omega arith)) (some 24 38) (some at size) (part-long s 62 (4 * entered) (omega arith)) (w .entered-le) (omega arith)
-
-in-front : (t d o : List ℕ) (n : ℕ) → length t ≤ length d → Prints t d n o → take n o ≡ t
-in-front t d o n h p =
-    let e : n ≡ length t = omega arith in
-    rw (p .bytes, take-all (length d) t h, e) (take-at t (drop (length t) d) (length t) refl)
 
 pub whole-rerun : WholeRerun
 whole-rerun s d o n b h p = let short = written-short (jobOf s) s b (job-within s) in in-front (rerunOf s) d o n (omega arith) p

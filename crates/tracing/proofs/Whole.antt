@@ -1,13 +1,11 @@
 -- A buffer for 65,535 lines of 36 bytes takes the whole of every trace.
 -- Assumes nothing.
-use mathlib.Core.Path.{_≡_, refl}
 use mathlib.Core.Bool.{Bool, true, false, _||_}
 use mathlib.Core.List.{List, [], _++_}
 use Prim.Native.Nat.{ℕ, zero, suc, _+_, _*_, _≤_}
 use native.Mathlib.Omega.{arith}
 use lib.Dec.{ltb}
 use lib.ListN.{length, take, drop, length-append}
-use lib.Seq.{take-all, take-at}
 use Rattle.basis.specs.Pick.{pick}
 use Rattle.basis.specs.Bytes.{Bytes}
 use Rattle.cores.specs.declared.Core.{Core}
@@ -15,7 +13,7 @@ use Rattle.cores.specs.State.{freshOf}
 use Rattle.tick.specs.Tick.{refuses, stops, tickOf}
 use Rattle.tick.specs.declared.Offer.the-variants.{Nothing}
 use Rattle.tracing.specs.declared.job.Job.the-variants.{Bad, Trace}
-use Rattle.page.specs.Page.{Prints}
+use Rattle.page.proofs.Laid.{in-front}
 use Rattle.tracing.specs.Trace.{wordIn, lineOf, linesOf, zeros, textOf, traceOf, WholeTrace}
 use Rattle.tracing.proofs.Short.{line-short}
 
@@ -42,11 +40,6 @@ trace-short : (s : List ℕ) → Bytes s → length (traceOf s) ≤ 65535 * 36
 trace-short s b =
     let word : wordIn s 4 ≤ 65535 = omega (arith, b .byte-lt 4, b .byte-lt 5) in
     job-short (ltb 49152 (wordIn s 0)) (ltb (length s) (wordIn s 0 + 6)) (wordIn s 0) (wordIn s 2) (wordIn s 4) s word
-
-in-front : (t d o : List ℕ) (n : ℕ) → length t ≤ length d → Prints t d n o → take n o ≡ t
-in-front t d o n h p =
-    let e : n ≡ length t = omega arith in
-    rw (p .bytes, take-all (length d) t h, e) (take-at t (drop (length t) d) (length t) refl)
 
 pub whole-trace : WholeTrace
 whole-trace s d o n b h p = let short = trace-short s b in in-front (traceOf s) d o n (omega arith) p
