@@ -1,2 +1,3 @@
--- `Laid`: texts one behind the other, which the proofs of the crates above cite.
+-- `Laid`: texts one behind the other. `Short`: how long a text is at most. The proofs of the crates above cite both.
 pub mod Laid
+pub mod Short

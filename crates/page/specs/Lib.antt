@@ -1,2 +1,3 @@
--- `Page`: a text in a buffer, as much of it as fits, and one behind another.
+-- `Page`: a text in a lent buffer. `Numbers`: numbers as text.
 pub mod Page
+pub mod Numbers

@@ -2,6 +2,12 @@
 ghost use mathlib.Core.List.{[], _∷_};
 ghost use Rattle.page.specs.Page.{page, Puts};
 
+mod numbers;
+
+pub use numbers::put_decimal;
+pub use numbers::put_hex2;
+pub use numbers::put_hex4;
+
 pub fn put_byte(out: &mut [u8], at: usize, b: u8) -> usize
     ensures { λ n. ⌜ Puts (page (now (out .entry)) at) (b ∷ []) (page (now (out .exit)) n) ⌝ }
 {

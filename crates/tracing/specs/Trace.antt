@@ -2,13 +2,14 @@
 use mathlib.Core.Path.{_≡_}
 use mathlib.Core.Bool.{_||_}
 use mathlib.Core.List.{List, [], _∷_, _++_}
-use Prim.Native.Nat.{ℕ, zero, suc, _+_, _*_, _/_, _%_, _≤_}
-use lib.Dec.{ltb, leb}
+use Prim.Native.Nat.{ℕ, zero, suc, _+_, _*_, _%_, _≤_}
+use lib.Dec.{ltb}
 use lib.ListN.{getD, take, drop, length, replicate}
 use Rattle.basis.specs.Pick.{pick}
 use Rattle.basis.specs.Bytes.{Bytes}
-use Rattle.basis.specs.Text.{text, line, hexDigit}
+use Rattle.basis.specs.Text.{text, line}
 use Rattle.page.specs.Page.{Prints}
+use Rattle.page.specs.Numbers.{hex2, hex4, decimal}
 use Rattle.cores.specs.declared.Core.{Core}
 use Rattle.cores.specs.State.{freshOf}
 use Rattle.tick.specs.Tick.{refuses, stops, tickOf}
@@ -28,20 +29,7 @@ jobOf s =
     let size = wordIn s 0 in
     pick (ltb 49152 size) Bad (pick (ltb (length s) (size + 6)) Bad (Trace size (wordIn s 2) (wordIn s 4)))
 
--- ---- "PC and SP four hex digits, SREG two": capitals
-abbrev pub hex2 : ℕ → List ℕ
-hex2 x = hexDigit (x / 16) ∷ hexDigit x ∷ []
-
-abbrev pub hex4 : ℕ → List ℕ
-hex4 x = hex2 (x / 256) ++ hex2 (x % 256)
-
--- "decimal number": no leading zero. The digit of p, where the number reaches p
-abbrev pub digit : ℕ → ℕ → List ℕ
-digit n p = pick (leb p n) ((48 + n / p % 10) ∷ []) []
-
-abbrev pub decimal : ℕ → List ℕ
-decimal n = digit n 10000 ++ digit n 1000 ++ digit n 100 ++ digit n 10 ++ ((48 + n % 10) ∷ [])
-
+-- ---- "PC and SP four hex digits, SREG two" (`hex4`, `hex2`), "decimal number" (`decimal`)
 -- "Words: waited ran sleep watchdog undefined break end, or `refused-N`"; no vector is offered, so no line says entered
 abbrev pub wordOf : Answer → List ℕ
 wordOf (Refused n) = text "refused-" ++ ((48 + n % 10) ∷ [])

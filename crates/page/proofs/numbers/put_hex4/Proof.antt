@@ -1,9 +1,9 @@
 -- `put_hex4`: a word as four digits.
 -- Assumes nothing.
 use borrow.Author.Needs.{needs}
 use Rattle.page.proofs.Laid.{both}
-use Rattle.tracing.proofs.line.put_hex4.Statement.{statement}
-use Rattle.tracing.proofs.line.put_hex4.Tie as tie
+use Rattle.page.proofs.numbers.put_hex4.Statement.{statement}
+use Rattle.page.proofs.numbers.put_hex4.Tie as tie
 
 pub put-hex4-spec : {M : Type 1} → statement M
 put-hex4-spec =

@@ -1,9 +1,9 @@
 -- `put_if`: the byte or nothing.
 -- Assumes nothing.
 use borrow.Author.Needs.{needs}
 use Rattle.page.proofs.Laid.{none}
-use Rattle.tracing.proofs.line.put_if.Statement.{statement}
-use Rattle.tracing.proofs.line.put_if.Tie as tie
+use Rattle.page.proofs.numbers.put_if.Statement.{statement}
+use Rattle.page.proofs.numbers.put_if.Tie as tie
 
 pub put-if-spec : {M : Type 1} → statement M
 put-if-spec =

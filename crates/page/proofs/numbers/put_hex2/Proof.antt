@@ -2,9 +2,9 @@
 -- Assumes nothing.
 use mathlib.Core.Path.{sym}
 use borrow.Author.Needs.{needs}
 use Rattle.page.proofs.Laid.{both}
-use Rattle.tracing.proofs.line.put_hex2.Statement.{statement}
-use Rattle.tracing.proofs.line.put_hex2.Tie as tie
+use Rattle.page.proofs.numbers.put_hex2.Statement.{statement}
+use Rattle.page.proofs.numbers.put_hex2.Tie as tie
 
 pub put-hex2-spec : {M : Type 1} → statement M
 put-hex2-spec =

@@ -1,9 +1,9 @@
 -- `put_decimal`: a digit each.
 -- Assumes nothing.
 use borrow.Author.Needs.{needs}
 use Rattle.page.proofs.Laid.{both}
-use Rattle.tracing.proofs.line.put_decimal.Statement.{statement}
-use Rattle.tracing.proofs.line.put_decimal.Tie as tie
+use Rattle.page.proofs.numbers.put_decimal.Statement.{statement}
+use Rattle.page.proofs.numbers.put_decimal.Tie as tie
 
 pub put-decimal-spec : {M : Type 1} → statement M
 put-decimal-spec =
