@@ -15,6 +15,8 @@ use Rattle.latency.proofs.Schedule.{schedule-enters-within-eight, at-most-seven
 use Rattle.latency.proofs.Computed.{eight-is-the-figure}
 use Rattle.latency.proofs.Cycles.{ticks-by-the-table, instructions-run-for-their-ticks}
 use Rattle.latency.proofs.Manual.{manual-beside}
+use Rattle.encode.proofs.Computed as words
+use Rattle.round_trip.proofs.Round.{encodes-what-was-decoded, no-two-alike, decodes-what-was-encoded, refuses-exactly}
 use Rattle.table_decode.proofs.Alike.{decodes-alike, ticks-alike, runs-alike}
 use Rattle.hex.proofs.Exactly.{each-number-exactly}
 use Rattle.hex.proofs.GivenBack.{given-back}
@@ -72,6 +74,11 @@ requests =
       instruction-ticks = instructions-run-for-their-ticks;
       manual-cycles = manual-beside;
       foretold = foretold;
+      encodes-what-was-decoded = encodes-what-was-decoded;
+      no-two-alike = no-two-alike;
+      decodes-what-was-encoded = decodes-what-was-encoded;
+      encode-refusals = refuses-exactly;
+      encode-examples = words.examples;
       decodes-alike = decodes-alike;
       ticks-alike = ticks-alike;
       runs-alike = runs-alike;

@@ -15,6 +15,8 @@ use Rattle.rerunning.specs.Laws.{WholeRerun, CutRerun, JoinedInput, RerunInStep
 use Rattle.latency.specs.Entry.{EntryWithinEight, EntryBehindTheWaits, RunsEnterWithinEight, ScheduleEntersWithinEight, AtMostSevenLate}
 use Rattle.latency.specs.Examples.{EightIsTheFigure}
 use Rattle.latency.specs.Cycles.{TicksByTheTable, InstructionsRunForTheirTicks, ManualBeside}
+use Rattle.encode.specs.Examples as words
+use Rattle.round_trip.specs.RoundTrip.{EncodesWhatWasDecoded, NoTwoAlike, DecodesWhatWasEncoded, RefusesExactly}
 use Rattle.table_decode.specs.Alike.{DecodesAlike, TicksAlike, RunsAlike}
 use Rattle.hex.specs.Answers.{EachNumberExactly}
 use Rattle.hex.specs.Promises.{WritingIsGivenBack, RefusedReadChangesNothing, RefusedWriteChangesNothing, NamedAtMostOnce, EachByteOfAFileRead, TextLength}
@@ -76,6 +78,14 @@ pub record Requests : Type 0 where
   -- ---- W7. What the next tick will do
   -- crates/tick/specs/Plan.antt: what is foretold is what the tick then gives, and carrying it out leaves the tick's core and data
   pub foretold : TickIsTheTwoInTurn
+  -- ---- W8. Words from instructions, and a listing
+  -- crates/round_trip/specs/RoundTrip.antt: encoding and decoding are each other's way back; 33 and 34 exactly when
+  pub encodes-what-was-decoded : EncodesWhatWasDecoded
+  pub no-two-alike : NoTwoAlike
+  pub decodes-what-was-encoded : DecodesWhatWasEncoded
+  pub encode-refusals : RefusesExactly
+  -- crates/encode/specs/Examples.antt: some instructions with their words, and some that have none
+  pub encode-examples : words.Examples
   -- ---- W10. Decode by table
   -- crates/table_decode/specs/Alike.antt: by the table every word is decoded as before, and no tick and no run can tell which decoder was used
   pub decodes-alike : DecodesAlike

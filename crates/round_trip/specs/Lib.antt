@@ -1,0 +1,2 @@
+-- `RoundTrip`: what is proved of the encoder and `decode`.
+pub mod RoundTrip
