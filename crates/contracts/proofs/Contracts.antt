@@ -23,6 +23,7 @@ use Rattle.host.proofs.avr_run.Met as avr-run
 use Rattle.host.proofs.avr_run_schedule.Met as avr-run-schedule
 use Rattle.tracing.proofs.trace.Met as trace
 use Rattle.encode.proofs.encode.Met as encode
+use Rattle.listing.proofs.list.Met as list
 use Rattle.schedule_text.proofs.read.Met as schedule-text-read
 use Rattle.rerunning.proofs.rerun.Met as rerun
 use Rattle.hex.proofs.check.check.Met as hex-check
@@ -68,6 +69,7 @@ contracts =
       avr-run-schedule = avr-run-schedule.met;
       trace = trace.met;
       encode = encode.met;
+      list = list.met;
       schedule-text-read = schedule-text-read.met;
       rerun = rerun.met;
       hex-check = hex-check.met;

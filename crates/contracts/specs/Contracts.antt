@@ -23,6 +23,7 @@ use Rattle.host.proofs.avr_run.Statement as avr-run
 use Rattle.host.proofs.avr_run_schedule.Statement as avr-run-schedule
 use Rattle.tracing.proofs.trace.Statement as trace
 use Rattle.encode.proofs.encode.Statement as encode
+use Rattle.listing.proofs.list.Statement as list
 use Rattle.schedule_text.proofs.read.Statement as schedule-text-read
 use Rattle.rerunning.proofs.rerun.Statement as rerun
 use Rattle.hex.proofs.check.check.Statement as hex-check
@@ -79,6 +80,8 @@ pub record Contracts : Type 2 where
   pub trace : {M : Type 1} → trace.statement M
   -- crates/encode/src/lib.rt
   pub encode : {M : Type 1} → encode.statement M
+  -- crates/listing/src/lib.rt
+  pub list : {M : Type 1} → list.statement M
   -- crates/schedule_text/src/lib.rt
   pub schedule-text-read : {M : Type 1} → schedule-text-read.statement M
   -- crates/rerunning/src/lib.rt

@@ -17,6 +17,11 @@ use Rattle.latency.proofs.Cycles.{ticks-by-the-table, instructions-run-for-thei
 use Rattle.latency.proofs.Manual.{manual-beside}
 use Rattle.encode.proofs.Computed as words
 use Rattle.round_trip.proofs.Round.{encodes-what-was-decoded, no-two-alike, decodes-what-was-encoded, refuses-exactly}
+use Rattle.listing.proofs.Joined.{words-are-the-program}
+use Rattle.listing.proofs.Decoded.{lines-are-decoded}
+use Rattle.listing.proofs.Whole.{whole-listing}
+use Rattle.listing.proofs.Cut.{cut-listing}
+use Rattle.listing.proofs.Example.{example}
 use Rattle.table_decode.proofs.Alike.{decodes-alike, ticks-alike, runs-alike}
 use Rattle.hex.proofs.Exactly.{each-number-exactly}
 use Rattle.hex.proofs.GivenBack.{given-back}
@@ -79,6 +84,11 @@ requests =
       decodes-what-was-encoded = decodes-what-was-encoded;
       encode-refusals = refuses-exactly;
       encode-examples = words.examples;
+      listing-words = words-are-the-program;
+      listing-decoded = lines-are-decoded;
+      whole-listing = whole-listing;
+      cut-listing = cut-listing;
+      listing-example = example;
       decodes-alike = decodes-alike;
       ticks-alike = ticks-alike;
       runs-alike = runs-alike;

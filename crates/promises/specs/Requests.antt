@@ -17,6 +17,7 @@ use Rattle.latency.specs.Examples.{EightIsTheFigure}
 use Rattle.latency.specs.Cycles.{TicksByTheTable, InstructionsRunForTheirTicks, ManualBeside}
 use Rattle.encode.specs.Examples as words
 use Rattle.round_trip.specs.RoundTrip.{EncodesWhatWasDecoded, NoTwoAlike, DecodesWhatWasEncoded, RefusesExactly}
+use Rattle.listing.specs.Laws.{WordsAreTheProgram, LinesAreDecoded, WholeListing, CutListing, Example}
 use Rattle.table_decode.specs.Alike.{DecodesAlike, TicksAlike, RunsAlike}
 use Rattle.hex.specs.Answers.{EachNumberExactly}
 use Rattle.hex.specs.Promises.{WritingIsGivenBack, RefusedReadChangesNothing, RefusedWriteChangesNothing, NamedAtMostOnce, EachByteOfAFileRead, TextLength}
@@ -86,6 +87,12 @@ pub record Requests : Type 0 where
   pub encode-refusals : RefusesExactly
   -- crates/encode/specs/Examples.antt: some instructions with their words, and some that have none
   pub encode-examples : words.Examples
+  -- crates/listing/specs/Laws.antt: the lines' words are the program; each line's instruction is what is decoded there; the program's buffers cut off no listing and no input that counts; the example
+  pub listing-words : WordsAreTheProgram
+  pub listing-decoded : LinesAreDecoded
+  pub whole-listing : WholeListing
+  pub cut-listing : CutListing
+  pub listing-example : Example
   -- ---- W10. Decode by table
   -- crates/table_decode/specs/Alike.antt: by the table every word is decoded as before, and no tick and no run can tell which decoder was used
   pub decodes-alike : DecodesAlike
