@@ -1,11 +1,34 @@
 # What the commands that run proved programs share. A command reads this file with `here` as the repository's folder and `name` as its own name.
 image_bytes=49152 # the longest program that trace takes, and what unhex writes
+text_most=1048576 # the longest text that unhex and rerun take
 kit_loader=''     # as find_loader sets it
 crate_seconds=20  # what a crate takes to prove, on two cores: 22 took 7 min 47 s
 
 stop() { # TEXT: says why nothing is run
     printf '%s\n' "$name: $*" >&2
     exit 1
+}
+
+wrong() { # TEXT: says in one line what to do, where the command was used wrongly
+    printf '%s\n' "$name: $*" >&2
+    exit 2
+}
+
+plain_file() { # FILE WHAT: stops where it cannot be read
+    [ -e "$1" ] || wrong "there is no file $1; give the name of a $2"
+    [ ! -d "$1" ] || wrong "$1 is a folder; give the name of a $2"
+    [ -r "$1" ] || wrong "cannot read $1; give a $2 that can be read"
+}
+
+copy() { # FILE WHAT BYTES COPY: so many of its bytes into $work, so that all that reads it reads the same
+    head -c "$3" 2>/dev/null <"$1" >"$work/$4" || wrong "cannot read $1; give a $2 that can be read"
+}
+
+is_hex() { # FILE: by its name
+    case $1 in
+    *.[hH][eE][xX] | *.[iI][hH][eE][xX] | *.[iI][hH][xX]) ;;
+    *) return 1 ;;
+    esac
 }
 
 open() { # FILE: makes it standard input

@@ -2,13 +2,8 @@
 # The folder $work has a run's texts and data as `hex`, `schedule` and `data`; what the last whole step of a run wrote is `RULE.result`.
 step=$(value "${RERUN_STEP:-50000000}" 4294967295) # ticks of a step, about a tenth of a second; tests take smaller ones by RERUN_STEP
 [ "${step:-0}" -gt 0 ] || step=50000000
-text_most=1048576 data_most=65536
+data_most=65536
 broken='' # yes once Ctrl-C was pressed
-
-wrong() { # TEXT: says in one line what to do, where the command was used wrongly
-    printf '%s\n' "$name: $*" >&2
-    exit 2
-}
 
 spaced() ( # NUMBER: with its thousands separated
     left=$1 said=''
@@ -19,14 +14,8 @@ spaced() ( # NUMBER: with its thousands separated
     echo "$left$said"
 )
 
-plain_file() { # FILE WHAT: stops where it cannot be read
-    [ -e "$1" ] || wrong "there is no file $1; give the name of a $2"
-    [ ! -d "$1" ] || wrong "$1 is a folder; give the name of a $2"
-    [ -r "$1" ] || wrong "cannot read $1; give a $2 that can be read"
-}
-
 take() { # FILE WHAT MOST COPY: copies it into $work, so that what is run is what is hashed
-    head -c $(($3 + 1)) 2>/dev/null <"$1" >"$work/$4" || wrong "cannot read $1; give a $2 that can be read"
+    copy "$1" "$2" $(($3 + 1)) "$4"
     [ "$(wc -c <"$work/$4")" -le "$3" ] || wrong "$1 is too long; a $2 has at most $(spaced "$3") bytes"
 }
 
