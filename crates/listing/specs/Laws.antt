@@ -1,4 +1,4 @@
--- 02, W8: what is proved of a listing. p is a program, a a word address, w a word, v the word behind it, i an instruction, l a line, d are the bytes of a buffer, o those afterwards, n is a byte, or says how many were written.
+-- 02, W8: what is proved of a listing. p is a program, a a word address, w a word, v the word behind it, i an instruction, l a line, d are the bytes of a buffer, o those afterwards, n says how many were written; b is a byte.
 use mathlib.Core.Bool.{true, false}
 use mathlib.Core.List.{List, [], _∷_, _++_}
 use mathlib.Core.Logic.{_⊎_}
@@ -23,7 +23,7 @@ abbrev pub wordBytes : ℕ → List ℕ
 wordBytes w = w % 256 ∷ w / 256 ∷ []
 
 abbrev pub rowBytes : Row → List ℕ
-rowBytes (Lone n) = n ∷ []
+rowBytes (Lone b) = b ∷ []
 rowBytes (Single w i) = wordBytes w
 rowBytes (Double w v i) = wordBytes w ++ wordBytes v
 
@@ -41,7 +41,7 @@ decodedAt p a = decodeOf (programWordOf p a) (programWordOf p (a + 1))
 
 -- the words are those at the address, and the instruction is what they decode to, or its second word is missing; a lone byte has none
 abbrev pub Decoded : List ℕ → ℕ → Row → Type 0
-Decoded p a (Lone n) = (n ≡ getD p (a * 2) 0) × (hasWordOf p a ≡ false)
+Decoded p a (Lone b) = (b ≡ getD p (a * 2) 0) × (hasWordOf p a ≡ false)
 Decoded p a (Single w i) = (w ≡ programWordOf p a) × ((i ≡ decodedAt p a) ⊎ ((i ≡ UNDEF) × ((twoWords (decodedAt p a) ≡ true) × (hasWordOf p (a + 1) ≡ false))))
 Decoded p a (Double w v i) = (w ≡ programWordOf p a) × ((v ≡ programWordOf p (a + 1)) × (i ≡ decodedAt p a))
 
