@@ -1,9 +1,11 @@
 // The arithmetic inside the handlers, on plain bytes and words: the result, and the flags that it says. No core.
+#![tactic(auto)]
+
 ghost use Rattle.std.specs.Prelude.{◌≡◌};
 ghost use Rattle.alu.specs.Alu.{plus_of, minus_of, halved_of, plus_word_of, minus_word_of, signed_of, product_of, doubled_of};
 
 // A sum or a difference of two bytes.
-#[derive(Drop)]
+#[derive(Clone, Copy)]
 pub struct Sum {
     pub value: u8,
     pub carry: bool,
@@ -12,7 +14,7 @@ pub struct Sum {
 }
 
 // A sum or a difference of a word and a byte.
-#[derive(Drop)]
+#[derive(Clone, Copy)]
 pub struct WordSum {
     pub value: u16,
     pub carry: bool,

@@ -1,4 +1,6 @@
 // Answers cases from standard input, one after another: a snapshot, then offer, program length and data length, then program and data.
+#![tactic(auto)]
+
 use libc::{STDIN_FILENO, STDOUT_FILENO};
 
 // The 32-bit number at `at`, high byte first.

@@ -1,4 +1,6 @@
 // What the theorems assume of cores and slices holds of every one by its type: each function here takes any, hands nothing back, and ensures it.
+#![tactic(auto)]
+
 ghost use Rattle.std.specs.Prelude.{◌≤◌};
 ghost use Rattle.basis.specs.Bytes.{Bytes};
 ghost use Rattle.cores.specs.State.{Sound};

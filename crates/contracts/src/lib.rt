@@ -1,1 +1,2 @@
 // Statements and proofs alone: no function.
+#![tactic(auto)]

@@ -1,4 +1,6 @@
 // The Rust's `Core`, by value: a core goes in and its successor comes back. Program and data are lent to the handlers that use them.
+#![tactic(auto)]
+
 ghost use Rattle.std.specs.Prelude.{◌≡◌};
 ghost use Rattle.cores.specs.State.{
   fresh_of,
@@ -23,7 +25,7 @@ mod transfer;
 
 pub use transfer::in_data_space;
 
-#[derive(Drop)]
+#[derive(Clone, Copy)]
 pub struct Core {
     pub regs: [u8; 32],
     pub sreg: u8,
@@ -36,13 +38,13 @@ pub struct Core {
 }
 
 // The refusal is 0 or 6.
-#[derive(Drop)]
+#[derive(Clone, Copy)]
 pub struct RegisterRead {
     pub refusal: u8,
     pub value: u8,
 }
 
-#[derive(Drop)]
+#[derive(Clone, Copy)]
 pub struct RegisterSet {
     pub refusal: u8,
     pub core: Core,

@@ -1,9 +1,11 @@
 // What decoding costs, for bench/: the words of an image, each with the word behind it, decoded so many times over, and how often one had a second word.
 // Standard input: a byte for the way (0 `decode`, 1 by a lent table, 2 by a table built at each use, any other: nothing is decoded), the times as 16 bits, high byte first, the image.
+#![tactic(auto)]
+
 use instruction::Instruction;
 use libc::{STDIN_FILENO, STDOUT_FILENO};
 
-#[derive(Drop)]
+#[derive(Clone, Copy)]
 struct Words {
     first: u16,
     second: u16,

@@ -1,4 +1,6 @@
 // An instruction carried out on lent registers, with the rest of its core as numbers: what `tick::carry_out` does to an executed instruction, without a core that is copied.
+#![tactic(auto)]
+
 ghost use Rattle.std.specs.Prelude.{◌≡◌};
 ghost use Rattle.instruction.specs.Decode.{decode_of};
 ghost use Rattle.forms.specs.Instructions.{instruction_of};
@@ -21,7 +23,7 @@ pub use transfer::pointed;
 use transfer::{ld, leaves, load_to, lpm, set_io_bit, st, store_from};
 
 // A core but for its registers and its rule.
-#[derive(Drop)]
+#[derive(Clone, Copy)]
 pub struct Step {
     pub pc: u16,
     pub sp: u16,

@@ -12,7 +12,7 @@ use cores::pointer;
 use forms::fields::*;
 
 // SREG and SP behind a store, which may be to them, and the ticks to wait.
-#[derive(Drop)]
+#[derive(Clone, Copy)]
 pub(crate) struct Left {
     pub sreg: u8,
     pub sp: u16,

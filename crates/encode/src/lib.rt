@@ -1,4 +1,6 @@
 // An instruction's one or two words (02, W8): `decode` backwards.
+#![tactic(auto)]
+
 ghost use Rattle.std.specs.Prelude.{◌≡◌};
 ghost use Rattle.encode.specs.Encode.{refused, encode_of};
 
@@ -8,7 +10,7 @@ use layout::*;
 mod field;
 mod layout;
 
-#[derive(Drop)]
+#[derive(Clone, Copy)]
 pub struct Encoded {
     pub refusal: u8, // 0, or why there are no words
     pub words: u8, // 1 or 2; 0 where there are none

@@ -1,4 +1,6 @@
 // How many words of the program on standard input, each with the word behind it, `decode` knows and `encode` gives back: for tests.
+#![tactic(auto)]
+
 use instruction::Instruction;
 use libc::{STDIN_FILENO, STDOUT_FILENO};
 

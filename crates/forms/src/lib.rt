@@ -1,4 +1,6 @@
 // The form of a word (02, W10): which case of `Instruction` it is, as a number, found in a lent table by the word's high byte and low nibble.
+#![tactic(auto)]
+
 ghost use Rattle.std.specs.Prelude.{◌≡◌};
 ghost use Rattle.forms.specs.Forms.{entry_at, form_by};
 

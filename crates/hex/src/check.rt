@@ -6,7 +6,7 @@ ghost use Rattle.hex.specs.Reading.{checked};
 use hex_line::{address, count, fault, kind, line_at};
 
 // What reading answers: a refusal and the number of its line, both 0 where nothing is refused.
-#[derive(Drop)]
+#[derive(Clone, Copy)]
 pub struct Read {
     pub refusal: u8,
     pub line: usize,

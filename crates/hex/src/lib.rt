@@ -1,4 +1,6 @@
 // Intel HEX files: read into a lent program, and written from one.
+#![tactic(auto)]
+
 ghost use Rattle.std.specs.Prelude.{◌≡◌, length};
 ghost use Rattle.hex.specs.Reading.{read_of, program_of};
 ghost use Rattle.hex.specs.Writing.{write_of, buffer_of};
@@ -11,7 +13,7 @@ mod put;
 mod text;
 
 // What writing answers: a refusal, and the text's length; 0 where there is none.
-#[derive(Drop)]
+#[derive(Clone, Copy)]
 pub struct Written {
     pub refusal: u8,
     pub length: usize,

@@ -1,4 +1,6 @@
 // A line of an Intel HEX file: found in a text, its record read, and judged.
+#![tactic(auto)]
+
 mod digits;
 mod faults;
 mod lines;
@@ -9,7 +11,7 @@ pub use lines::{end_length, line_at};
 pub use records::{address, byte, count, kind};
 
 // Where a line's characters end, and where the next line starts.
-#[derive(Drop)]
+#[derive(Clone, Copy)]
 pub struct Line {
     pub stop: usize,
     pub next: usize,

@@ -1,4 +1,6 @@
 // The C interface: the tick and the run over a snapshot, and HEX files. Numbers are 01's and 02's; 65,536 is no offer.
+#![tactic(auto)]
+
 ghost use Rattle.std.specs.Prelude.{◌≡◌};
 ghost use Rattle.run.specs.Over.{of_check};
 ghost use Rattle.host.specs.Host.{offer_of, avr_tick_of, avr_run_of, Tells, TellsTicks};

@@ -1,4 +1,6 @@
 // Prints the listing of the program on standard input.
+#![tactic(auto)]
+
 use libc::{STDIN_FILENO, STDOUT_FILENO};
 
 // A byte more than has word addresses.

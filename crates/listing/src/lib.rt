@@ -1,4 +1,6 @@
 // A program as text (02, W8): a line an instruction, with its word address, its words, its name and its operands.
+#![tactic(auto)]
+
 ghost use Rattle.page.specs.Page.{Prints};
 ghost use Rattle.listing.specs.Listing.{listing_of};
 

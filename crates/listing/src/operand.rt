@@ -5,7 +5,7 @@ ghost use Rattle.listing.specs.Listing.{ahead, register_text, pair_text, byte_te
 
 use page::{put_byte, put_decimal, put_hex2, put_hex4, put_text};
 
-#[derive(Drop)]
+#[derive(Clone, Copy)]
 pub(crate) enum Operand {
     Register(u8),
     Pair(u8), // the lower register of two

@@ -4,7 +4,7 @@ ghost use Rattle.listing.specs.Listing.{row_at, words_in};
 
 use instruction::Instruction;
 
-#[derive(Drop)]
+#[derive(Clone, Copy)]
 pub(crate) enum Row {
     Lone(u8),
     Single(u16, Instruction),

@@ -9,7 +9,7 @@ use crate::operand::Operand;
 use forms::form::*;
 use instruction::Instruction;
 
-#[derive(Drop)]
+#[derive(Clone, Copy)]
 pub(crate) enum Shown {
     Bare(u8),
     One(u8, Operand),

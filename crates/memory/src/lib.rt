@@ -1,4 +1,6 @@
 // Flat memories: a lent slice of bytes, of any length. Outside it a byte reads 0 and nothing is written; who must refuse asks `has` first.
+#![tactic(auto)]
+
 ghost use Rattle.std.specs.Prelude.{◌≡◌, get_or, set};
 ghost use Rattle.memory.specs.Memory.{has_of, word_of, program_word_of, has_word_of, bit_set_of};
 

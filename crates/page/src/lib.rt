@@ -1,4 +1,6 @@
 // A lent buffer that a text is put into, from `at` on; what does not fit is dropped. Each hands back where the text ends.
+#![tactic(auto)]
+
 ghost use Rattle.std.specs.Prelude.{[], ◌∷◌};
 ghost use Rattle.page.specs.Page.{page, Puts};
 

@@ -1,4 +1,6 @@
 // 01's register-only list, carried out on lent registers by W3's handlers.
+#![tactic(auto)]
+
 ghost use Rattle.std.specs.Prelude.{◌≡◌, List};
 ghost use Rattle.registers.specs.Registers.{Changes};
 
@@ -7,7 +9,7 @@ use forms::fields::*;
 use forms::form::*;
 
 // What such an instruction changes beside the registers.
-#[derive(Drop)]
+#[derive(Clone, Copy)]
 pub struct Changed {
     pub sreg: u8,
     pub busy: u8,

@@ -1,4 +1,6 @@
 // Runs the image and the schedule on standard input from the state there, and writes the state that it leads to.
+#![tactic(auto)]
+
 use libc::{STDIN_FILENO, STDOUT_FILENO};
 
 // The head and a core, the entries of 65,536 records, data, a HEX text and a schedule.

@@ -2,7 +2,7 @@
 ghost use Rattle.std.specs.Prelude.{◌≡◌};
 ghost use Rattle.rerunning.specs.Rerun.{number_in, job_of};
 
-#[derive(Drop)]
+#[derive(Clone, Copy)]
 pub enum Job {
     Bad,
     Run {

@@ -1,4 +1,6 @@
 // What `rerun` writes for its input (docs/RERUN.md): an image, a schedule and the state of a run, and the state that the run leads to.
+#![tactic(auto)]
+
 ghost use Rattle.page.specs.Page.{Prints};
 ghost use Rattle.rerunning.specs.Rerun.{rerun_of};
 

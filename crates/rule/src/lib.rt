@@ -1,4 +1,6 @@
 // What the rule decides, a function each: the Rust's way under source, the chip's own under chip.
+#![tactic(auto)]
+
 ghost use Rattle.std.specs.Prelude.{◌≡◌};
 ghost use Rattle.rule.specs.Rule.{old_bit_clear, load_waits, store_waits, bset_inhibits};
 

@@ -7,7 +7,7 @@ use crate::ready::tells;
 use forms::form::UNDEF;
 
 // Where a stretch ended: `at` ticks from the start of the run, when the last instruction's waits are over.
-#[derive(Drop)]
+#[derive(Clone, Copy)]
 pub(crate) struct Gone {
     pub at: u64,
     pub pc: u16,

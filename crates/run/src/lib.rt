@@ -1,4 +1,6 @@
 // Runs: ticks one after another under one held offer, until the budget is spent, a break, the end, or a refusal.
+#![tactic(auto)]
+
 ghost use Rattle.std.specs.Prelude.{◌≡◌};
 ghost use Rattle.run.specs.Run.{run_of, Runs};
 
@@ -13,7 +15,7 @@ mod settling;
 pub use over::{Over, run_in, tick_in};
 
 // The answer is 24, 22, 23 or the refusal, by 01's numbers; `ticks` counts the ticks done.
-#[derive(Drop)]
+#[derive(Clone, Copy)]
 pub struct Ran {
     pub answer: u8,
     pub ticks: u32,

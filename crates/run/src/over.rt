@@ -9,7 +9,7 @@ use crate::settling::{flags, leave, word_at};
 use tick::{Answer, Offer};
 
 // The number of an answer, and the ticks done.
-#[derive(Drop)]
+#[derive(Clone, Copy)]
 pub struct Over {
     pub answer: u8,
     pub ticks: u32,

@@ -1,4 +1,6 @@
 // Runs by a list of ticks at which interrupts fired: at every tick the earliest record that is due and not yet entered is offered.
+#![tactic(auto)]
+
 ghost use Rattle.std.specs.Prelude.{◌≡◌, ◌-◌, max, eqb};
 ghost use Rattle.basis.specs.Pick.{pick};
 ghost use Rattle.run.specs.Run.{Runs};

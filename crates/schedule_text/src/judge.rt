@@ -6,7 +6,7 @@ ghost use Rattle.schedule_text.specs.Judged.{judged_of};
 use crate::line::{Said, said_by};
 
 // A fault, 0 for none; and whether the line gives a record, and which.
-#[derive(Drop)]
+#[derive(Clone, Copy)]
 pub struct Judged {
     pub fault: u8,
     pub given: bool,

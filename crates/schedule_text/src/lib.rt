@@ -1,4 +1,6 @@
 // A schedule as a text, a line `TICK VECTOR` each, read into a list of records.
+#![tactic(auto)]
+
 ghost use Rattle.std.specs.Prelude.{◌≡◌, ◌*◌, ◌/◌, ◌<◌, length};
 ghost use Rattle.std.proofs.lemmas.List.Edits.{sets};
 ghost use Rattle.schedule_text.specs.Reading.{outcome_of, list_of, five_of};
@@ -11,7 +13,7 @@ mod line;
 mod number;
 
 // What reading answers: a fault and the number of its line, both 0 where there is none, and how many records were read before it.
-#[derive(Drop)]
+#[derive(Clone, Copy)]
 pub struct Outcome {
     pub fault: u8,
     pub line: usize,

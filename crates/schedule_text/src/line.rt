@@ -4,7 +4,7 @@ ghost use Rattle.schedule_text.specs.Reading.{blanks, is_over, line_of};
 
 use crate::number::number_at;
 
-#[derive(Drop)]
+#[derive(Clone, Copy)]
 pub enum Said {
     Nothing,
     Wrong,

@@ -3,7 +3,7 @@ ghost use Rattle.std.specs.Prelude.{◌≡◌, ◌<◌, ◌≤◌, drop, length}
 ghost use Rattle.schedule_text.specs.Reading.{worth, digits_from, starts_hex, number_of};
 
 // What it says, and how many characters it takes; 0 where there is none.
-#[derive(Drop)]
+#[derive(Clone, Copy)]
 pub struct Number {
     pub value: u32,
     pub length: usize,

@@ -1,11 +1,13 @@
 // Snapshots: a core as 38 bytes. A refusal is 0 where there is none.
+#![tactic(auto)]
+
 ghost use Rattle.std.specs.Prelude.{◌≡◌, ◌+◌, ◌*◌, ◌≤◌, length};
 ghost use Rattle.basis.specs.Bit.{one};
 ghost use Rattle.snapshot.specs.Snapshot.{bytes_of, core_of, write_of, read_of, refused_read, Writes};
 
 use cores::Core;
 
-#[derive(Drop)]
+#[derive(Clone, Copy)]
 pub struct SnapshotRead {
     pub refusal: u8,
     pub core: Core,

@@ -1,4 +1,6 @@
 // A second decoder (02, W10): the form is looked up in a lent table, and the form says which fields the word has.
+#![tactic(auto)]
+
 ghost use Rattle.std.specs.Prelude.{◌≡◌};
 ghost use Rattle.forms.specs.Instructions.{instruction_of};
 ghost use Rattle.table_decode.specs.Decoding.{decoded_by};

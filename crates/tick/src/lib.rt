@@ -1,4 +1,6 @@
 // One tick: the Rust's `Core::tick`, in 01's five steps, as two operations. The first only reads and says what is to be done; the second does it and cannot refuse.
+#![tactic(auto)]
+
 ghost use Rattle.std.specs.Prelude.{◌≡◌};
 ghost use Rattle.tick.specs.Tick.{number_of, refuses, stops, tick_of, Ticks, in_place};
 
@@ -14,13 +16,13 @@ pub use carrying::carry_out;
 pub use deciding::decide;
 
 // A vector, or none.
-#[derive(Drop)]
+#[derive(Clone, Copy)]
 pub enum Offer {
     Vector(u16),
     Nothing,
 }
 
-#[derive(Drop)]
+#[derive(Clone, Copy)]
 pub enum Answer {
     Refused(u8),
     Waited,
@@ -34,7 +36,7 @@ pub enum Answer {
 }
 
 // What the next tick is to do.
-#[derive(Drop)]
+#[derive(Clone, Copy)]
 pub enum Plan {
     Refuse(u8),
     Wait,
@@ -43,7 +45,7 @@ pub enum Plan {
     Execute(Instruction),
 }
 
-#[derive(Drop)]
+#[derive(Clone, Copy)]
 pub struct Ticked {
     pub answer: Answer,
     pub core: Core,

@@ -1,5 +1,7 @@
 // 01's bench loop, for bench/: one core, lent to every tick. So many ticks of an image from a fresh core, with no offer, whatever they answer; prints PC and R16 after them.
 // Standard input: the ticks as 32 bits, high byte first, then the image.
+#![tactic(auto)]
+
 ghost use Rattle.std.specs.Prelude.{◌≡◌};
 ghost use Rattle.ticking.specs.After.{after_of};
 

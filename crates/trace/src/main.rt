@@ -1,4 +1,6 @@
 // Prints the trace of the image on standard input.
+#![tactic(auto)]
+
 use libc::{STDIN_FILENO, STDOUT_FILENO};
 
 // Three numbers and the longest program.

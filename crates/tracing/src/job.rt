@@ -2,7 +2,7 @@
 ghost use Rattle.std.specs.Prelude.{◌≡◌, ◌+◌, ◌*◌, get_or};
 ghost use Rattle.tracing.specs.Trace.{job_of};
 
-#[derive(Drop)]
+#[derive(Clone, Copy)]
 pub enum Job {
     Bad,
     Trace { size: usize, sp: u16, budget: u16 },

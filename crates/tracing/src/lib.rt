@@ -1,4 +1,6 @@
 // What `trace` prints for its input: a line for each tick.
+#![tactic(auto)]
+
 ghost use Rattle.page.specs.Page.{Prints};
 ghost use Rattle.tracing.specs.Trace.{trace_of};
 

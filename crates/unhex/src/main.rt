@@ -1,4 +1,6 @@
 // Prints the image that the HEX file on standard input says. Where it is refused, a line with the number and the refused line comes out instead, and no image.
+#![tactic(auto)]
+
 use libc::{STDIN_FILENO, STDOUT_FILENO};
 
 // The longest program that `trace` takes.

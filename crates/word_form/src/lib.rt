@@ -1,4 +1,6 @@
 // The form of a word, and whether it has a second word, by arithmetic on the word alone: no table is lent, and no `Instruction` is built.
+#![tactic(auto)]
+
 ghost use Rattle.std.specs.Prelude.{◌≡◌};
 ghost use Rattle.instruction.specs.Code.{two_words};
 ghost use Rattle.instruction.specs.Decode.{decode_of};

@@ -16,10 +16,10 @@ minus_spec =
     (λ c. search rules)
     (λ c κs. search rules)
     (λ c. search rules)
-    (λ c. omega (arith, one_le c.before.before.args.c))
+    (λ c. omega (arith, one_le c.args.c))
     (λ c. search rules)
-    (λ c. omega (arith, one_le c.before.before.args.c))
+    (λ c. omega (arith, one_le c.args.c))
     (λ c.
-    let x = c.before.before.args in
-    let value : c.wrapping-sub-u82.result ≡ (x.a + 512 - (x.b + one x.c)) % 256 = omega (arith, one_le x.c, c.wrapping-sub-u82.ensures, c.before.wrapping-sub-u8.ensures) in
+    let x = c.args in
+    let value : c.wrapping_sub_u8-value.result ≡ (x.a + 512 - (x.b + one x.c)) % 256 = omega (arith, one_le x.c, c.wrapping_sub_u8-value.ensures, c.wrapping_sub_u8.ensures) in
     rw value))

@@ -10,6 +10,6 @@ minus_word_spec =
     (tie.spec
     (λ c κs. search rules)
     (λ c.
-    let x = c.before.args in
-    let value : c.wrapping-sub-u16.result ≡ (x.a + 65536 - x.n) % 65536 = omega (arith, c.wrapping-sub-u16.ensures) in
+    let x = c.args in
+    let value : c.wrapping_sub_u16.result ≡ (x.a + 65536 - x.n) % 65536 = omega (arith, c.wrapping_sub_u16.ensures) in
     rw value))

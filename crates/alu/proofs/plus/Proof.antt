@@ -17,11 +17,11 @@ plus_spec =
     (λ c κs. search rules)
     (λ c. search rules)
     (λ c. search rules)
-    (λ c. omega (arith, one_le c.before.before.args.c))
+    (λ c. omega (arith, one_le c.args.c))
     (λ c. search rules)
     (λ c. search rules)
-    (λ c. omega (arith, one_le c.before.before.args.c))
+    (λ c. omega (arith, one_le c.args.c))
     (λ c.
-    let x = c.before.before.args in
-    let value : c.wrapping-add-u82.result ≡ (x.a + x.b + one x.c) % 256 = omega (arith, c.wrapping-add-u82.ensures, c.before.wrapping-add-u8.ensures) in
+    let x = c.args in
+    let value : c.wrapping_add_u8-value.result ≡ (x.a + x.b + one x.c) % 256 = omega (arith, c.wrapping_add_u8-value.ensures, c.wrapping_add_u8.ensures) in
     rw value))

@@ -10,4 +10,4 @@ plus_word_spec =
     (tie.spec
     (λ c κs. search rules)
     (λ c. search rules)
-    (λ c. rw c.wrapping-add-u16.ensures))
+    (λ c. rw c.wrapping_add_u16.ensures))

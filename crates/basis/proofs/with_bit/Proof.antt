@@ -13,5 +13,5 @@ with_bit_spec =
     (tie.spec
     (λ c. search rules)
     (λ c. search rules)
-    (λ c. let a = c.before.args in rw (or_put a.x (a.b % 8) (omega arith) (omega arith), put_mod, c.if1.true))
-    (λ c. let a = c.before.args in rw (and_put a.x (a.b % 8) (omega arith) (omega arith), put_mod, c.if1.false)))
+    (λ c. let a = c.before.args in rw (or_put a.x (a.b % 8) (omega arith) (omega arith), put_mod, c.if-on.true))
+    (λ c. let a = c.before.args in rw (and_put a.x (a.b % 8) (omega arith) (omega arith), put_mod, c.if-on.false)))

@@ -17,5 +17,5 @@ entry_at_spec =
     (λ c. search rules)
     (λ c. search rules)
     (λ c. search rules)
-    (λ c. let a = c.before.before.args in inside a.table.now (index a.opcode) 0 (form UNDEF) c.before.if1.true)
-    (λ c. let a = c.before.args in sym (get_or-eq_default a.table.now (form UNDEF) c.if1.false)))
+    (λ c. let a = c.args in inside a.table.now (index a.opcode) 0 (form UNDEF) c.if-index-table.true)
+    (λ c. let a = c.args in sym (get_or-eq_default a.table.now (form UNDEF) c.if-index-table.false)))

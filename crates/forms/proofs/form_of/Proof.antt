@@ -13,5 +13,5 @@ form_of_spec =
     (tie.spec
     (λ c κs. search rules)
     (λ c κs. search rules)
-    (λ c. rw (c.further.ensures, ← c.before.before.entry_at.ensures, c.before.if1.true))
-    (λ c. let e = c.before.entry_at in rw (← e.ensures, ne_eqb e.result mark c.if1.false)))
+    (λ c. rw (c.further.ensures, ← c.entry_at-entry.ensures, c.if-entry.true))
+    (λ c. let e = c.entry_at-entry in rw (← e.ensures, ne_eqb e.result mark c.if-entry.false)))

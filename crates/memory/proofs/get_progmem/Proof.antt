@@ -23,5 +23,5 @@ get_progmem_spec =
     (λ c κs. search rules)
     (λ c. search rules)
     (λ c. let a = c.before.before.before.before.args in
-    let outside = ltb-false (a.pc * 2 + 1) (length a.program.now) (sym c.before.before.Has-word.ensures ∙ c.before.if1.false) in
+    let outside = ltb-false (a.pc * 2 + 1) (length a.program.now) (sym c.before.before.has_word.ensures ∙ c.before.if-has_word.false) in
     rw (get_or-eq_default a.program.now 0 outside, c.read.ensures) (omega arith)))

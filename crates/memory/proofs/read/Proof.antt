@@ -12,4 +12,4 @@ read_spec =
     (tie.spec
     (λ c. search rules)
     (λ c. search rules)
-    (λ c. sym (get_or-eq_default c.before.args.bytes.now 0 c.if1.false)))
+    (λ c. sym (get_or-eq_default c.before.args.bytes.now 0 c.if-address-bytes.false)))

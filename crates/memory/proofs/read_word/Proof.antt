@@ -19,4 +19,4 @@ read_word_spec =
     (λ c. search rules)
     (λ c. search rules)
     (λ c. search rules)
-    (λ c. let m = c.before.before.args.bytes.now in let at = c.before.before.args.address in let h : length m ≤ at + 1 = omega (arith, c.if1.false) in rw (get_or-eq_default m 0 c.if1.false, get_or-eq_default m 0 h)))
+    (λ c. let m = c.before.before.args.bytes.now in let at = c.before.before.args.address in let h : length m ≤ at + 1 = omega (arith, c.if-address-bytes.false) in rw (get_or-eq_default m 0 c.if-address-bytes.false, get_or-eq_default m 0 h)))

@@ -7,5 +7,5 @@ pub old_bit_clear_spec : {M : Type 1} → statement M
 old_bit_clear_spec =
     tie.close
     (tie.spec
-    (λ c. rw c.if1.true)
-    (λ c. rw c.if1.false))
+    (λ c. rw c.if-chip.true)
+    (λ c. rw c.if-chip.false))

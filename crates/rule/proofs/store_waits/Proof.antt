@@ -9,5 +9,5 @@ unfolding store_waits
 store_waits_spec =
     tie.close
     (tie.spec
-    (λ c. rw c.if1.true)
-    (λ c. rw c.if1.false))
+    (λ c. rw c.if-chip.true)
+    (λ c. rw c.if-chip.false))

@@ -13,5 +13,5 @@ adc_spec =
     (λ c. search rules)
     (λ c κs. search rules)
     (λ c.
-    let e = c.before.adc.ensures in
+    let e = c.adc.ensures in
     rw (e.0, e.1)))

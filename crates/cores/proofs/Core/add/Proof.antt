@@ -13,5 +13,5 @@ add_spec =
     (λ c. search rules)
     (λ c κs. search rules)
     (λ c.
-    let e = c.before.add.ensures in
+    let e = c.add.ensures in
     rw (e.0, e.1)))

@@ -13,5 +13,5 @@ adiw_spec =
     (λ c. search rules)
     (λ c κs. search rules)
     (λ c.
-    let e = c.before.adiw.ensures in
+    let e = c.adiw.ensures in
     rw (e.0, e.1)))

@@ -10,4 +10,4 @@ and_spec =
     (tie.spec
     (λ c κs. search rules)
     (λ c κs. search rules)
-    (λ c. rw (c.andi.ensures, c.before.get_register.ensures)))
+    (λ c. rw (c.andi.ensures, c.get_register.ensures)))

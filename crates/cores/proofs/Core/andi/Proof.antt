@@ -13,5 +13,5 @@ andi_spec =
     (λ c. search rules)
     (λ c κs. search rules)
     (λ c.
-    let e = c.before.and.ensures in
+    let e = c.and.ensures in
     rw (e.0, e.1)))

@@ -13,5 +13,5 @@ asr_spec =
     (λ c. search rules)
     (λ c κs. search rules)
     (λ c.
-    let e = c.before.asr.ensures in
+    let e = c.asr.ensures in
     rw (e.0, e.1)))

@@ -12,4 +12,4 @@ bld_spec =
     (tie.spec
     (λ c. search rules)
     (λ c κs. search rules)
-    (λ c. rw c.before.bld.ensures))
+    (λ c. rw c.bld.ensures))

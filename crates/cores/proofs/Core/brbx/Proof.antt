@@ -14,5 +14,5 @@ brbx_spec =
     (λ c κs. search rules)
     (λ c κs. search rules)
     (λ c κs. search rules)
-    (λ c. rw (← c.before.before.before.get_sreg_bit.ensures, c.before.before.if1.true, c.wrapping-add-u16.ensures, c.before.signed.ensures))
-    (λ c. rw (← c.before.get_sreg_bit.ensures, c.if1.false)))
+    (λ c. rw (← c.get_sreg_bit.ensures, c.if-get_sreg_bit-set.true, c.wrapping_add_u16.ensures, c.signed.ensures))
+    (λ c. rw (← c.get_sreg_bit.ensures, c.if-get_sreg_bit-set.false)))

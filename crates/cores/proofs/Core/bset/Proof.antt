@@ -12,4 +12,4 @@ bset_spec =
     (tie.spec
     (λ c κs. search rules)
     (λ c κs. search rules)
-    (λ c. rw (c.before.bset-inhibits.ensures, c.before.before.set_sreg_bit.ensures)))
+    (λ c. rw (c.bset_inhibits.ensures, c.set_sreg_bit-k.ensures)))

@@ -12,4 +12,4 @@ call_spec =
     (λ c. search rules)
     (λ c κs. search rules)
     (λ c. search rules)
-    (λ c. rw (← c.before.before.before.before.wrapping-add-u16.ensures) c.before.before.subroutine.ensures))
+    (λ c. rw (← c.wrapping_add_u16-back.ensures) c.subroutine.ensures))

@@ -13,5 +13,5 @@ com_spec =
     (λ c. search rules)
     (λ c κs. search rules)
     (λ c.
-    let e = c.before.«com».ensures in
+    let e = c.«com».ensures in
     rw (e.0, e.1)))

@@ -10,4 +10,4 @@ cp_spec =
     (tie.spec
     (λ c κs. search rules)
     (λ c κs. search rules)
-    (λ c. rw (c.cpi.ensures, c.before.get_register.ensures)))
+    (λ c. rw (c.cpi.ensures, c.get_register.ensures)))

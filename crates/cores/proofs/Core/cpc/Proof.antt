@@ -13,4 +13,4 @@ cpc_spec =
     (λ c κs. search rules)
     (λ c. search rules)
     (λ c κs. search rules)
-    (λ c. rw (c.cpc.ensures, c.before.before.before.get_register.ensures)))
+    (λ c. rw (c.cpc.ensures, c.get_register-Rr.ensures)))

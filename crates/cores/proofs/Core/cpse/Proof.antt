@@ -11,4 +11,4 @@ cpse_spec =
     (λ c κs. search rules)
     (λ c κs. search rules)
     (λ c κs. search rules)
-    (λ c. rw (c.skip.ensures, c.before.get-register2.ensures, c.before.before.get_register.ensures)))
+    (λ c. rw (c.skip.ensures, c.get_register-Rr.ensures, c.get_register-Rd.ensures)))

@@ -13,5 +13,5 @@ dec_spec =
     (λ c. search rules)
     (λ c κs. search rules)
     (λ c.
-    let e = c.before.dec.ensures in
+    let e = c.dec.ensures in
     rw (e.0, e.1)))

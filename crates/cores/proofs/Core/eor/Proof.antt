@@ -14,5 +14,5 @@ eor_spec =
     (λ c. search rules)
     (λ c κs. search rules)
     (λ c.
-    let e = c.before.eor.ensures in
-    rw (e.0, e.1, c.before.before.before.before.get_register.ensures)))
+    let e = c.eor.ensures in
+    rw (e.0, e.1, c.get_register-Rr.ensures)))

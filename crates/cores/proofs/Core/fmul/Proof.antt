@@ -13,5 +13,5 @@ fmul_spec =
     (λ c. search rules)
     (λ c κs. search rules)
     (λ c.
-    let e = c.before.fmul.ensures in
+    let e = c.fmul.ensures in
     rw (e.0, e.1)))

@@ -13,5 +13,5 @@ fmuls_spec =
     (λ c. search rules)
     (λ c κs. search rules)
     (λ c.
-    let e = c.before.fmuls.ensures in
+    let e = c.fmuls.ensures in
     rw (e.0, e.1)))

@@ -13,5 +13,5 @@ fmulsu_spec =
     (λ c. search rules)
     (λ c κs. search rules)
     (λ c.
-    let e = c.before.fmulsu.ensures in
+    let e = c.fmulsu.ensures in
     rw (e.0, e.1)))

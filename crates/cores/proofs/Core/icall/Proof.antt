@@ -11,4 +11,4 @@ icall_spec =
     (λ c κs. search rules)
     (λ c κs. search rules)
     (λ c. search rules)
-    (λ c. rw (← c.before.before.before.before.get_register_word.ensures) c.before.before.subroutine.ensures))
+    (λ c. rw (← c.get_register_word-target.ensures) c.subroutine.ensures))

@@ -10,4 +10,4 @@ ijmp_spec =
     (tie.spec
     (λ c κs. search rules)
     (λ c κs. search rules)
-    (λ c. rw (c.jump.ensures, c.before.get_register_word.ensures)))
+    (λ c. rw (c.jump.ensures, c.get_register_word.ensures)))

@@ -4,10 +4,10 @@ use Rattle.std.proofs.Common.{rules}
 use Rattle.cores.proofs.Core.in_.Statement.{statement}
 use Rattle.cores.proofs.Core.in_.Tie as tie
 
-pub in_spec : {M : Type 1} → statement M
-in_spec =
+pub in__spec : {M : Type 1} → statement M
+in__spec =
     tie.close
     (tie.spec
     (λ c κs. search rules)
     (λ c κs. search rules)
-    (λ c. rw (c.put-register.ensures, c.before.get_data_space.ensures)))
+    (λ c. rw (c.put_register.ensures, c.get_data_space.ensures)))

@@ -13,5 +13,5 @@ inc_spec =
     (λ c. search rules)
     (λ c κs. search rules)
     (λ c.
-    let e = c.before.inc.ensures in
+    let e = c.inc.ensures in
     rw (e.0, e.1)))

@@ -21,5 +21,5 @@ ld_spec =
     (λ c κs. search rules)
     (λ c κs. search rules)
     (λ c.
-    let p = c.before.before.before in
-    rw (c.set-word-if2.ensures, c.before.wrapping-add-u16.ensures, c.before.before.put-register.ensures, p.get_data_space.ensures, p.before.set-word-if.ensures, p.before.before.pointed.ensures, p.before.before.before.load-waits.ensures)))
+    let p = c in
+    rw (c.set_word_if.ensures, c.wrapping_add_u16.ensures, c.put_register.ensures, p.get_data_space-value.ensures, p.set_word_if-k.ensures, p.pointed-address.ensures, p.load_waits.ensures)))

@@ -13,4 +13,4 @@ lds_spec =
     (tie.spec
     (λ c κs. search rules)
     (λ c κs. search rules)
-    (λ c. rw (c.put-register.ensures, c.before.get_data_space.ensures)))
+    (λ c. rw (c.put_register.ensures, c.get_data_space.ensures)))

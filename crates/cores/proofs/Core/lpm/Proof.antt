@@ -16,4 +16,4 @@ lpm_spec =
     (λ c κs. search rules)
     (λ c κs. search rules)
     (λ c κs. search rules)
-    (λ c. rw (c.set-word-if.ensures, c.before.wrapping-add-u16.ensures, c.before.before.put-register.ensures, c.before.before.before.read.ensures, c.before.before.before.before.get_register_word.ensures)))
+    (λ c. rw (c.set_word_if.ensures, c.wrapping_add_u16.ensures, c.put_register.ensures, c.read.ensures, c.get_register_word-address.ensures)))

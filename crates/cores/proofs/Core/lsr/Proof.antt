@@ -13,5 +13,5 @@ lsr_spec =
     (λ c. search rules)
     (λ c κs. search rules)
     (λ c.
-    let e = c.before.lsr.ensures in
+    let e = c.lsr.ensures in
     rw (e.0, e.1)))

@@ -10,4 +10,4 @@ mov_spec =
     (tie.spec
     (λ c κs. search rules)
     (λ c κs. search rules)
-    (λ c. rw (c.put-register.ensures, c.before.get_register.ensures)))
+    (λ c. rw (c.put_register.ensures, c.get_register.ensures)))

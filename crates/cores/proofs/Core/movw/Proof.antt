@@ -10,4 +10,4 @@ movw_spec =
     (tie.spec
     (λ c κs. search rules)
     (λ c κs. search rules)
-    (λ c. rw (c.set_register_word.ensures, c.before.get_register_word.ensures)))
+    (λ c. rw (c.set_register_word.ensures, c.get_register_word.ensures)))

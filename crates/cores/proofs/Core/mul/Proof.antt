@@ -13,5 +13,5 @@ mul_spec =
     (λ c. search rules)
     (λ c κs. search rules)
     (λ c.
-    let e = c.before.mul.ensures in
+    let e = c.mul.ensures in
     rw (e.0, e.1)))

@@ -13,5 +13,5 @@ muls_spec =
     (λ c. search rules)
     (λ c κs. search rules)
     (λ c.
-    let e = c.before.muls.ensures in
+    let e = c.muls.ensures in
     rw (e.0, e.1)))

@@ -13,5 +13,5 @@ mulsu_spec =
     (λ c. search rules)
     (λ c κs. search rules)
     (λ c.
-    let e = c.before.mulsu.ensures in
+    let e = c.mulsu.ensures in
     rw (e.0, e.1)))

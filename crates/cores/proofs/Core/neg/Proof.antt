@@ -13,5 +13,5 @@ neg_spec =
     (λ c. search rules)
     (λ c κs. search rules)
     (λ c.
-    let e = c.before.neg.ensures in
+    let e = c.neg.ensures in
     rw (e.0, e.1)))

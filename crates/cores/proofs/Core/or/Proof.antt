@@ -10,4 +10,4 @@ or_spec =
     (tie.spec
     (λ c κs. search rules)
     (λ c κs. search rules)
-    (λ c. rw (c.ori.ensures, c.before.get_register.ensures)))
+    (λ c. rw (c.ori.ensures, c.get_register.ensures)))

@@ -13,5 +13,5 @@ ori_spec =
     (λ c. search rules)
     (λ c κs. search rules)
     (λ c.
-    let e = c.before.or.ensures in
+    let e = c.or.ensures in
     rw (e.0, e.1)))

@@ -4,11 +4,11 @@ use Rattle.std.proofs.Common.{rules}
 use Rattle.cores.proofs.Core.out.Statement.{statement}
 use Rattle.cores.proofs.Core.out.Tie as tie
 
-pub out-spec : {M : Type 1} → statement M
-out-spec =
+pub out_spec : {M : Type 1} → statement M
+out_spec =
     tie.close
     (tie.spec
     (λ c κs. search rules)
     (λ c κs. search rules)
     (λ c. search rules)
-    (λ c. let e = c.before.before.before.before.get-register.ensures in rw (← e) c.before.before.set-data-space.ensures))
+    (λ c. let e = c.get_register.ensures in rw (← e) c.set_data_space.ensures))

@@ -11,4 +11,4 @@ over_second_spec =
     tie.close
     (tie.spec
     (λ c κs. search rules)
-    (λ c. rw c.wrapping-add-u16.ensures))
+    (λ c. rw c.wrapping_add_u16.ensures))

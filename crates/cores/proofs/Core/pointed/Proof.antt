@@ -13,5 +13,5 @@ pointed_spec =
     (tie.spec
     (λ c κs. search rules)
     (λ c κs. search rules)
-    (λ c. let a = c.before.before.get_register_word.result in let e : c.wrapping-sub-u16.result ≡ down a 1 = omega arith in cc e)
+    (λ c. let a = c.get_register_word-address.result in let e : c.wrapping_sub_u16.result ≡ down a 1 = omega arith in cc e)
     (λ c. cc))

@@ -14,4 +14,4 @@ pop_spec =
     (λ c. search rules)
     (λ c κs. search rules)
     (λ c κs. search rules)
-    (λ c. rw (c.put-register.ensures, c.before.get_data_space.ensures, c.before.before.before.wrapping-add-u16.ensures)))
+    (λ c. rw (c.put_register.ensures, c.get_data_space.ensures, c.wrapping_add_u16.ensures)))

@@ -16,6 +16,6 @@ push_spec =
     (λ c κs. search rules)
     (λ c κs. search rules)
     (λ c. search rules)
-    (λ c. let stored = rw c.before.before.before.before.before.get_register.ensures at c.before.before.before.set_data_space.ensures in
-    let lower : c.wrapping-sub-u16.result ≡ down c.before.before.before.set_data_space.result.sp 1 = omega arith in
+    (λ c. let stored = rw c.get_register.ensures at c.set_data_space-k.ensures in
+    let lower : c.wrapping_sub_u16.result ≡ down c.set_data_space-k.result.sp 1 = omega arith in
     record { core = rw (lower, stored.core); bytes = stored.bytes }))

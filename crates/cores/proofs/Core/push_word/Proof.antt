@@ -20,7 +20,7 @@ push_word_spec =
     (λ c κs. search rules)
     (λ c κs. search rules)
     (λ c. search rules)
-    (λ c. let s = c.before.before.before.before.before.before.before.before.before.before.before.before.args.self.sp in
-    let two : c.wrapping-sub-u162.result ≡ down s 2 = omega arith in
-    let one : c.before.before.before.before.before.wrapping-sub-u16.result ≡ down s 1 = omega arith in
+    (λ c. let s = c.args.self.sp in
+    let two : c.wrapping_sub_u16.result ≡ down s 2 = omega arith in
+    let one : c.wrapping_sub_u16-below.result ≡ down s 1 = omega arith in
     record { core = rw two; bytes = cc one }))

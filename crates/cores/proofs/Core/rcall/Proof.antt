@@ -11,4 +11,4 @@ rcall_spec =
     (λ c κs. search rules)
     (λ c κs. search rules)
     (λ c. search rules)
-    (λ c. rw (← c.before.before.before.before.wrapping-add-u16.ensures) c.before.before.subroutine.ensures))
+    (λ c. rw (← c.wrapping_add_u16-target.ensures) c.subroutine.ensures))

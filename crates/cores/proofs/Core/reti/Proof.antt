@@ -11,4 +11,4 @@ reti_spec =
     tie.close
     (tie.spec
     (λ c κs. search rules)
-    (λ c. rw c.ret.ensures))
+    (λ c. rw c.ret-k.ensures))

@@ -10,4 +10,4 @@ rjmp_spec =
     (tie.spec
     (λ c κs. search rules)
     (λ c κs. search rules)
-    (λ c. rw (c.jump.ensures, c.before.wrapping-add-u16.ensures)))
+    (λ c. rw (c.jump.ensures, c.wrapping_add_u16.ensures)))

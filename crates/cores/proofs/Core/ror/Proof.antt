@@ -13,5 +13,5 @@ ror_spec =
     (λ c. search rules)
     (λ c κs. search rules)
     (λ c.
-    let e = c.before.ror.ensures in
+    let e = c.ror.ensures in
     rw (e.0, e.1)))

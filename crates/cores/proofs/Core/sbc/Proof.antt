@@ -10,4 +10,4 @@ sbc_spec =
     (tie.spec
     (λ c κs. search rules)
     (λ c κs. search rules)
-    (λ c. rw (c.sbci.ensures, c.before.get_register.ensures)))
+    (λ c. rw (c.sbci.ensures, c.get_register.ensures)))

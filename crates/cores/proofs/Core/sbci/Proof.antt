@@ -13,5 +13,5 @@ sbci_spec =
     (λ c. search rules)
     (λ c κs. search rules)
     (λ c.
-    let e = c.before.sbc.ensures in
+    let e = c.sbc.ensures in
     rw (e.0, e.1)))

@@ -13,5 +13,5 @@ sbiw_spec =
     (λ c. search rules)
     (λ c κs. search rules)
     (λ c.
-    let e = c.before.sbiw.ensures in
+    let e = c.sbiw.ensures in
     rw (e.0, e.1)))

@@ -11,4 +11,4 @@ sbrx_spec =
     (λ c κs. search rules)
     (λ c κs. search rules)
     (λ c κs. search rules)
-    (λ c. rw (c.skip.ensures, c.before.bit.ensures, c.before.before.get_register.ensures)))
+    (λ c. rw (c.skip.ensures, c.bit-bitval.ensures, c.get_register.ensures)))

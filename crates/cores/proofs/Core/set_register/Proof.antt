@@ -9,5 +9,5 @@ set_register_spec =
     tie.close
     (tie.spec
     (λ c κs. search rules)
-    (λ c. rw (lt-ltb _ _ c.before.if1.true, c.put-register.ensures))
-    (λ c. rw (le-ltb _ _ c.if1.false)))
+    (λ c. rw (lt-ltb _ _ c.if-register-lt32.true, c.put_register.ensures))
+    (λ c. rw (le-ltb _ _ c.if-register-lt32.false)))

@@ -12,4 +12,4 @@ set_register_word_spec =
     (tie.spec
     (λ c. search rules)
     (λ c κs. search rules)
-    (λ c. rw c.before.put_word.ensures))
+    (λ c. rw c.put_word.ensures))

@@ -23,5 +23,5 @@ skip_spec =
     (λ c. omega (arith, one_le c.two_words.result))
     (λ c. omega (arith, one_le c.two_words.result))
     (λ c κs. search rules)
-    (λ c. rw (c.before.before.before.before.before.before.before.if1.true, c.wrapping-add-u16.ensures, c.before.two_words.ensures, c.before.before.decode.ensures, c.before.before.before.get-progmem2.ensures, c.before.before.before.before.before.get_progmem.ensures))
+    (λ c. rw (c.if-taken.true, c.wrapping_add_u16.ensures, c.two_words.ensures, c.decode.ensures, c.get_progmem-prefetch.ensures, c.get_progmem-opcode.ensures))
     (λ c. cc))

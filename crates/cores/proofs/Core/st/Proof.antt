@@ -22,9 +22,9 @@ st_spec =
     (λ c κs. search rules)
     (λ c. search rules)
     (λ c.
-    let stored = c.before.before.before.before.set_data_space.ensures in
-    let p = c.before.before.before.before.before.before in
+    let stored = c.set_data_space-k.ensures in
+    let p = c in
     record {
-      core = rw (c.set-word-if2.ensures, stored.core, c.before.wrapping-add-u16.ensures, p.get_register.ensures, p.before.set-word-if.ensures, p.before.before.pointed.ensures, p.before.before.before.store_waits_lem.ensures);
-      bytes = stored.bytes ∙ rw (p.get_register.ensures, p.before.set-word-if.ensures, p.before.before.pointed.ensures, p.before.before.before.store_waits_lem.ensures);
+      core = rw (c.set_word_if.ensures, stored.core, c.wrapping_add_u16.ensures, p.get_register.ensures, p.set_word_if-k.ensures, p.pointed-address.ensures, p.store_waits_lem.ensures);
+      bytes = stored.bytes ∙ rw (p.get_register.ensures, p.set_word_if-k.ensures, p.pointed-address.ensures, p.store_waits_lem.ensures);
     }))

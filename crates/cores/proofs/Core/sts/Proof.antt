@@ -13,4 +13,4 @@ sts_spec =
     (λ c κs. search rules)
     (λ c κs. search rules)
     (λ c. search rules)
-    (λ c. let e = c.before.before.before.before.get_register.ensures in rw (← e) c.before.before.set_data_space.ensures))
+    (λ c. let e = c.get_register.ensures in rw (← e) c.set_data_space.ensures))

@@ -10,4 +10,4 @@ sub_spec =
     (tie.spec
     (λ c κs. search rules)
     (λ c κs. search rules)
-    (λ c. rw (c.subi.ensures, c.before.get_register.ensures)))
+    (λ c. rw (c.subi.ensures, c.get_register.ensures)))

@@ -13,5 +13,5 @@ subi_spec =
     (λ c. search rules)
     (λ c κs. search rules)
     (λ c.
-    let e = c.before.sub.ensures in
+    let e = c.sub.ensures in
     rw (e.0, e.1)))

@@ -12,4 +12,4 @@ subroutine_spec =
     (tie.spec
     (λ c κs. search rules)
     (λ c. search rules)
-    (λ c. let p = c.before.before.push-word.ensures in record { core = rw p.core; bytes = p.bytes }))
+    (λ c. let p = c.push_word-k.ensures in record { core = rw p.core; bytes = p.bytes }))

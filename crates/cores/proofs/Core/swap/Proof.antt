@@ -12,4 +12,4 @@ swap_spec =
     (tie.spec
     (λ c. search rules)
     (λ c κs. search rules)
-    (λ c. rw c.before.swap.ensures))
+    (λ c. rw c.swap.ensures))

@@ -16,4 +16,4 @@ put_word_spec =
     (λ c. search rules)
     (λ c κs. search rules)
     (λ c. search rules)
-    (λ c. rw (c.before.before.write2.ensures, c.before.before.before.before.before.before.write.ensures)))
+    (λ c. rw (c.write-2.ensures, c.write.ensures)))

@@ -1,5 +1,6 @@
 -- `in_data_space`: the three addresses, and the bytes of data elsewhere.
 -- Assumes nothing.
+use borrow.Author.Rules.{rules}
 use Rattle.cores.proofs.Space.{reach_elsewhere}
 use Rattle.cores.specs.Transfer.{reach_of}
 use Rattle.cores.proofs.transfer.in_data_space.Statement.{statement}
@@ -10,7 +11,7 @@ unfolding reach_of
 in_data_space_spec =
     tie.close
     (tie.spec
-    (λ c. rw c.match.keys1)
-    (λ c. rw c.match.keys2)
-    (λ c. rw c.match.keys3)
-    (λ c. rw (reach_elsewhere _ c.match.rest)))
+    (λ c. rw c.in-63.is)
+    (λ c. rw c.in-62.is)
+    (λ c. rw c.in-61.is)
+    (λ c. rw (reach_elsewhere c.args.address (search rules))))

@@ -1,5 +1,6 @@
 -- `control`: each key and each range has the form of its case, and past them the table has none.
 -- Assumes nothing.
+use borrow.Author.Rules.{rules}
 use mathlib.Core.Path.{◌∙◌, ap}
 use Prim.Native.Nat.{◌/◌, ◌%◌}
 use native.Mathlib.Omega.{arith}
@@ -14,13 +15,13 @@ unfolding control_of
 control_spec =
     tie.close
     (tie.spec
-    (λ c. rw c.match.keys1)
-    (λ c. rw c.match.keys2)
-    (λ c. rw c.match.keys3)
-    (λ c. rw c.match.keys4)
-    (λ c. rw c.match.keys5)
-    (λ c. rw c.match.keys6)
-    (λ c. let w = c.before.before.args.opcode in ap form (within 0 (w / 16 % 32) (control w) (omega arith)))
-    (λ c. let w = c.before.before.before.args.opcode in ap form (within 1 (w / 16 % 32) (control w) (omega arith)))
-    (λ c. let w = c.before.before.before.args.opcode in
-    ap form (missed (w / 16 % 32) control_rest c.before.before.match.rest ∙ within 2 (w / 16 % 32) (control w) (omega arith))))
+    (λ c. rw c.in-16.is)
+    (λ c. rw c.in-17.is)
+    (λ c. rw c.in-24.is)
+    (λ c. rw c.in-25.is)
+    (λ c. rw c.in-26.is)
+    (λ c. rw c.in-28.is)
+    (λ c. let w = c.args.opcode in ap form (within 0 (w / 16 % 32) (control w) (omega arith)))
+    (λ c. let w = c.args.opcode in ap form (within 1 (w / 16 % 32) (control w) (omega arith)))
+    (λ c. let w = c.args.opcode in
+    ap form (missed (w / 16 % 32) control_rest (search rules) ∙ within 2 (w / 16 % 32) (control w) (omega arith))))

@@ -14,6 +14,6 @@ control_or_indirect_spec =
     (tie.spec
     (λ c κs. search rules)
     (λ c κs. search rules)
-    (λ c. rw (c.control.ensures, c.before.match.keys1))
-    (λ c. rw (c.indirect.ensures, c.before.match.keys2))
-    (λ c. let w = c.before.args.opcode in ap form (missed (w % 16) (control_or_indirect w) c.match.rest)))
+    (λ c. rw (c.control.ensures, c.in-8.is))
+    (λ c. rw (c.indirect.ensures, c.in-9.is))
+    (λ c. let w = c.args.opcode in ap form (missed (w % 16) (control_or_indirect w) (search rules))))

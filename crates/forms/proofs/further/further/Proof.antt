@@ -15,7 +15,7 @@ further_spec =
     (tie.spec
     (λ c κs. search rules)
     (λ c κs. search rules)
-    (λ c. rw c.match.keys1)
-    (λ c. let w = c.before.before.args.opcode in ap form (within 1 w (further_cases w) (omega arith)))
-    (λ c. let w = c.before.before.before.before.args.opcode in c.multiply.ensures ∙ ap form (within 2 w (further_cases w) (omega arith)))
-    (λ c. let w = c.before.before.before.before.args.opcode in c.control-or-indirect.ensures ∙ ap form (within 3 w (further_cases w) (omega arith))))
+    (λ c. rw c.in-0.is)
+    (λ c. let w = c.args.opcode in ap form (within 1 w (further_cases w) (omega arith)))
+    (λ c. let w = c.args.opcode in c.multiply.ensures ∙ ap form (within 2 w (further_cases w) (omega arith)))
+    (λ c. let w = c.args.opcode in c.control_or_indirect.ensures ∙ ap form (within 3 w (further_cases w) (omega arith))))

@@ -1,5 +1,6 @@
 -- `indirect`: each key has the form of its case, and past them the table has none.
 -- Assumes nothing.
+use borrow.Author.Rules.{rules}
 use mathlib.Core.Path.{ap}
 use Prim.Native.Nat.{◌/◌, ◌%◌}
 use Rattle.instruction.specs.Decode.{indirect_of, indirect}
@@ -13,6 +14,6 @@ unfolding indirect_of
 indirect_spec =
     tie.close
     (tie.spec
-    (λ c. rw c.match.keys1)
-    (λ c. rw c.match.keys2)
-    (λ c. ap form (missed (c.before.args.opcode / 16 % 32) indirect c.match.rest)))
+    (λ c. rw c.in-0.is)
+    (λ c. rw c.in-16.is)
+    (λ c. ap form (missed (c.args.opcode / 16 % 32) indirect (search rules))))

@@ -3,6 +3,7 @@
 use Prim.Native.Nat.{◌/◌, ◌%◌}
 use Rattle.instruction.specs.Decode.{indirect_of, indirect}
 use Rattle.instruction.proofs.Cases.{missed}
+use borrow.Author.Rules.{rules}
 use Rattle.instruction.proofs.decode.indirect.Statement.{statement}
 use Rattle.instruction.proofs.decode.indirect.Tie as tie
 
@@ -11,6 +12,6 @@ unfolding indirect_of
 indirect_spec =
     tie.close
     (tie.spec
-    (λ c. rw c.match.keys1)
-    (λ c. rw c.match.keys2)
-    (λ c. let w = c.before.args.opcode in missed (w / 16 % 32) indirect c.match.rest))
+    (λ c. rw c.in-0.is)
+    (λ c. rw c.in-16.is)
+    (λ c. let w = c.args.opcode in missed (w / 16 % 32) indirect (search rules)))

@@ -15,7 +15,7 @@ port_bit_spec =
     (tie.spec
     (λ c. search rules)
     (λ c. search rules)
-    (λ c. rw c.match.keys1)
-    (λ c. rw c.match.keys2)
-    (λ c. rw c.match.keys3)
-    (λ c. let e : c.before.args.opcode / 256 % 4 ≡ 3 = omega arith in rw e))
+    (λ c. rw c.in-0.is)
+    (λ c. rw c.in-1.is)
+    (λ c. rw c.in-2.is)
+    (λ c. let e : c.args.opcode / 256 % 4 ≡ 3 = omega arith in rw e))

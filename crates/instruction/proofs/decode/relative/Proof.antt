@@ -15,5 +15,5 @@ relative_spec =
     (tie.spec
     (λ c. search rules)
     (λ c. search rules)
-    (λ c. rw c.match.keys1)
-    (λ c. let e : c.before.args.opcode / 4096 % 2 ≡ 1 = omega arith in rw e))
+    (λ c. rw c.in-0.is)
+    (λ c. let e : c.args.opcode / 4096 % 2 ≡ 1 = omega arith in rw e))

@@ -19,5 +19,5 @@ word_immediate_spec =
     (λ c. search rules)
     (λ c. search rules)
     (λ c. search rules)
-    (λ c. rw c.match.keys1)
-    (λ c. let e : c.before.args.opcode / 256 % 2 ≡ 1 = omega arith in rw e))
+    (λ c. rw c.in-0.is)
+    (λ c. let e : c.args.opcode / 256 % 2 ≡ 1 = omega arith in rw e))

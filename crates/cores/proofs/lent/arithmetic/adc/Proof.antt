@@ -17,6 +17,6 @@ adc_spec =
     (λ c κs. search rules)
     (λ c. search rules)
     (λ c.
-    let e = c.before.before.put-sum.ensures in
-    let p = c.before.before.before.before.before in
-    rw (e.0, e.1, p.plus.ensures, p.before.bit.ensures, p.before.before.read2.ensures, p.before.before.before.before.read.ensures) (refl, refl)))
+    let e = c.put_sum.ensures in
+    let p = c in
+    rw (e.0, e.1, p.plus-R.ensures, p.bit.ensures, p.read-Rr.ensures, p.read-Rd.ensures) (refl, refl)))

@@ -16,6 +16,6 @@ add_spec =
     (λ c κs. search rules)
     (λ c. search rules)
     (λ c.
-    let e = c.before.before.put-sum.ensures in
-    let p = c.before.before.before.before.before in
-    rw (e.0, e.1, p.plus.ensures, p.before.read2.ensures, p.before.before.before.read.ensures) (refl, refl)))
+    let e = c.put_sum.ensures in
+    let p = c in
+    rw (e.0, e.1, p.plus-R.ensures, p.read-Rr.ensures, p.read-Rd.ensures) (refl, refl)))

@@ -17,5 +17,5 @@ adiw_spec =
     (λ c κs. search rules)
     (λ c. search rules)
     (λ c.
-    let p = c.before.before.before.before in
-    rw (c.cznvs.ensures, p.put_word.ensures, p.before.before.old-bit-clear.ensures, p.before.before.before.before.plus-word.ensures, p.before.before.before.before.before.read_word.ensures) (refl, refl)))
+    let p = c in
+    rw (c.cznvs.ensures, p.put_word.ensures, p.old_bit_clear.ensures, p.plus_word-R_hl.ensures, p.read_word-Rd_hl.ensures) (refl, refl)))

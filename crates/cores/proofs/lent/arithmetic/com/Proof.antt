@@ -16,5 +16,5 @@ com_spec =
     (λ c κs. search rules)
     (λ c. search rules)
     (λ c.
-    let p = c.before.before.before in
-    rw (c.cznvs.ensures, p.write.ensures, p.before.before.read.ensures) (refl, refl)))
+    let p = c in
+    rw (c.cznvs.ensures, p.write.ensures, p.read-R.ensures) (refl, refl)))

@@ -15,8 +15,8 @@ dec_spec =
     (λ c κs. search rules)
     (λ c. search rules)
     (λ c.
-    let e = c.before.before.put-result.ensures in
-    let p = c.before.before.before.before in
-    let a = p.before.read.result in
-    let x : p.wrapping-sub-u8.result ≡ (a + 255) % 256 = omega arith in
-    rw (e.0, e.1, x, p.before.read.ensures) (refl, refl)))
+    let e = c.put_result.ensures in
+    let p = c in
+    let a = p.read-Rd.result in
+    let x : p.wrapping_sub_u8-R.result ≡ (a + 255) % 256 = omega arith in
+    rw (e.0, e.1, x, p.read-Rd.ensures) (refl, refl)))

@@ -15,6 +15,6 @@ inc_spec =
     (λ c κs. search rules)
     (λ c. search rules)
     (λ c.
-    let e = c.before.before.put-result.ensures in
-    let p = c.before.before.before.before in
-    rw (e.0, e.1, p.wrapping-add-u8.ensures, p.before.read.ensures) (refl, refl)))
+    let e = c.put_result.ensures in
+    let p = c in
+    rw (e.0, e.1, p.wrapping_add_u8-R.ensures, p.read-Rd.ensures) (refl, refl)))

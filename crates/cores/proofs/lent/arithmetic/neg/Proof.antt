@@ -18,7 +18,7 @@ neg_spec =
     (λ c κs. search rules)
     (λ c. search rules)
     (λ c.
-    let p = c.before.before.before in
-    let a = p.before.before.before.before.before.read.result in
-    let x : p.before.before.before.before.wrapping-sub-u8.result ≡ (256 - a) % 256 = omega arith in
-    rw (c.cznvsh.ensures, p.write.ensures, p.before.before.bit2.ensures, p.before.before.before.bit.ensures, x, p.before.before.before.before.before.read.ensures) (refl, refl)))
+    let p = c in
+    let a = p.read-Rd.result in
+    let x : p.wrapping_sub_u8-R.result ≡ (256 - a) % 256 = omega arith in
+    rw (c.cznvsh.ensures, p.write.ensures, p.bit-2.ensures, p.bit.ensures, x, p.read-Rd.ensures) (refl, refl)))

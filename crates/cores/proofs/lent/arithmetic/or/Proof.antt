@@ -14,5 +14,5 @@ or_spec =
     (λ c κs. search rules)
     (λ c. search rules)
     (λ c.
-    let e = c.before.before.put-result.ensures in
-    rw (e.0, e.1, c.before.before.before.before.read.ensures) (refl, refl)))
+    let e = c.put_result.ensures in
+    rw (e.0, e.1, c.read-Rd.ensures) (refl, refl)))

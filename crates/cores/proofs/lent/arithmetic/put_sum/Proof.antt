@@ -13,4 +13,4 @@ put_sum_spec =
     (λ c κs. search rules)
     (λ c κs. search rules)
     (λ c. search rules)
-    (λ c. rw (c.of-sum.ensures, c.before.before.before.write.ensures) (refl, refl)))
+    (λ c. rw (c.of_sum.ensures, c.write.ensures) (refl, refl)))

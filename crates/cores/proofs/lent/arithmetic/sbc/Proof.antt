@@ -17,6 +17,6 @@ sbc_spec =
     (λ c κs. search rules)
     (λ c. search rules)
     (λ c.
-    let e = c.before.before.put-sum.ensures in
-    let p = c.before.before.before.before.before in
-    rw (e.0, e.1, p.bit2.ensures, p.before.minus.ensures, p.before.before.bit.ensures, p.before.before.before.read.ensures) (refl, refl)))
+    let e = c.put_sum.ensures in
+    let p = c in
+    rw (e.0, e.1, p.bit-2.ensures, p.minus-R.ensures, p.bit.ensures, p.read-Rd.ensures) (refl, refl)))

@@ -16,5 +16,5 @@ sbiw_spec =
     (λ c κs. search rules)
     (λ c. search rules)
     (λ c.
-    let p = c.before.before.before.before.before in
-    rw (c.cznvs.ensures, p.put_word.ensures, p.before.before.before.minus-word.ensures, p.before.before.before.before.read_word.ensures) (refl, refl)))
+    let p = c in
+    rw (c.cznvs.ensures, p.put_word.ensures, p.minus_word-R_hl.ensures, p.read_word-Rd_hl.ensures) (refl, refl)))

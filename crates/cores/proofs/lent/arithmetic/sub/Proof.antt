@@ -15,6 +15,6 @@ sub_spec =
     (λ c κs. search rules)
     (λ c. search rules)
     (λ c.
-    let e = c.before.before.put-sum.ensures in
-    let p = c.before.before.before.before.before in
-    rw (e.0, e.1, p.minus.ensures, p.before.read.ensures) (refl, refl)))
+    let e = c.put_sum.ensures in
+    let p = c in
+    rw (e.0, e.1, p.minus-R.ensures, p.read-Rd.ensures) (refl, refl)))

@@ -14,5 +14,5 @@ asr_spec =
     (λ c κs. search rules)
     (λ c. search rules)
     (λ c.
-    let e = c.before.before.shift.ensures in
-    rw (e.0, e.1, c.before.before.before.before.read.ensures) (refl, refl)))
+    let e = c.shift.ensures in
+    rw (e.0, e.1, c.read-Rd.ensures) (refl, refl)))

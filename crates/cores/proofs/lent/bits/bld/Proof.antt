@@ -16,5 +16,5 @@ bld_spec =
     (λ c κs. search rules)
     (λ c. search rules)
     (λ c.
-    let p = c.before.before.before in
-    rw (c.before.before.write.ensures, p.with-bit.ensures, p.before.before.bit.ensures, p.before.before.before.read.ensures)))
+    let p = c in
+    rw (c.write.ensures, p.with_bit.ensures, p.bit-T.ensures, p.read-Rd.ensures)))

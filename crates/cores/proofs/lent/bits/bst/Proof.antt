@@ -13,4 +13,4 @@ bst_spec =
     (λ c κs. search rules)
     (λ c κs. search rules)
     (λ c κs. search rules)
-    (λ c. rw (c.with-bit.ensures, c.before.bit.ensures, c.before.before.read.ensures)))
+    (λ c. rw (c.with_bit.ensures, c.bit.ensures, c.read-Rd.ensures)))

@@ -12,5 +12,5 @@ ror_spec =
     (λ c κs. search rules)
     (λ c. search rules)
     (λ c.
-    let e = c.before.before.shift.ensures in
-    rw (e.0, e.1, c.before.before.before.bit.ensures) (refl, refl)))
+    let e = c.shift.ensures in
+    rw (e.0, e.1, c.bit.ensures) (refl, refl)))

@@ -17,5 +17,5 @@ shift_spec =
     (λ c κs. search rules)
     (λ c. search rules)
     (λ c.
-    let p = c.before.before.before in
-    rw (c.cznvs.ensures, p.write.ensures, p.before.before.bit.ensures, p.before.before.before.halved.ensures, p.before.before.before.before.read.ensures) (refl, refl)))
+    let p = c in
+    rw (c.cznvs.ensures, p.write.ensures, p.bit-C.ensures, p.halved-R.ensures, p.read-Rd.ensures) (refl, refl)))

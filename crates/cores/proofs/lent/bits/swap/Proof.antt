@@ -15,4 +15,4 @@ swap_spec =
     (λ c. search rules)
     (λ c κs. search rules)
     (λ c. search rules)
-    (λ c. rw (c.before.before.write.ensures, c.before.before.before.before.read.ensures)))
+    (λ c. rw (c.write.ensures, c.read-Rd.ensures)))

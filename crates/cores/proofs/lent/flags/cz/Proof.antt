@@ -12,4 +12,4 @@ cz_spec =
     (tie.spec
     (λ c κs. search rules)
     (λ c κs. search rules)
-    (λ c. rw (c.with-bit2.ensures, c.before.with-bit.ensures)))
+    (λ c. rw (c.with_bit-2.ensures, c.with_bit.ensures)))

@@ -12,4 +12,4 @@ cznvs_spec =
     (tie.spec
     (λ c κs. search rules)
     (λ c κs. search rules)
-    (λ c. rw (c.znvs.ensures, c.before.with-bit.ensures)))
+    (λ c. rw (c.znvs.ensures, c.with_bit.ensures)))

@@ -12,4 +12,4 @@ cznvsh_spec =
     (tie.spec
     (λ c κs. search rules)
     (λ c κs. search rules)
-    (λ c. rw (c.with-bit.ensures, c.before.cznvs.ensures)))
+    (λ c. rw (c.with_bit.ensures, c.cznvs.ensures)))

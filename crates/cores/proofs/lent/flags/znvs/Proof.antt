@@ -14,4 +14,4 @@ znvs_spec =
     (λ c κs. search rules)
     (λ c κs. search rules)
     (λ c κs. search rules)
-    (λ c. rw (c.with-bit4.ensures, c.before.with-bit3.ensures, c.before.before.with-bit2.ensures, c.before.before.before.with-bit.ensures)))
+    (λ c. rw (c.with_bit.ensures, c.with_bit-v.ensures, c.with_bit-n.ensures, c.with_bit-z.ensures)))

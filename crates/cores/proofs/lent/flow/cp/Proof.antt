@@ -13,4 +13,4 @@ cp_spec =
     (λ c κs. search rules)
     (λ c κs. search rules)
     (λ c κs. search rules)
-    (λ c. rw (c.of-sum.ensures, c.before.before.minus.ensures, c.before.before.before.read.ensures)))
+    (λ c. rw (c.of_sum.ensures, c.minus-R.ensures, c.read-Rd.ensures)))

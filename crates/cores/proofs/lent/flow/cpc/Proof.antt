@@ -16,5 +16,5 @@ cpc_spec =
     (λ c κs. search rules)
     (λ c κs. search rules)
     (λ c.
-    let p = c.before.before.before in
-    rw (c.of-sum.ensures, c.before.before.bit2.ensures, p.minus.ensures, p.before.bit.ensures, p.before.before.read.ensures)))
+    let p = c in
+    rw (c.of_sum.ensures, c.bit-2.ensures, p.minus-R.ensures, p.bit.ensures, p.read-Rd.ensures)))

@@ -16,5 +16,5 @@ both_signed_spec =
     (λ c κs. search rules)
     (λ c κs. search rules)
     (λ c.
-    let p = c.before.before.before in
-    rw (c.product.ensures, c.before.signed2.ensures, c.before.before.signed.ensures, p.read2.ensures, p.before.read.ensures)))
+    let p = c in
+    rw (c.product.ensures, c.signed-2.ensures, c.signed.ensures, p.read-Rr.ensures, p.read-Rd.ensures)))

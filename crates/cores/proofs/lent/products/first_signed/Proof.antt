@@ -15,4 +15,4 @@ first_signed_spec =
     (λ c κs. search rules)
     (λ c. search rules)
     (λ c κs. search rules)
-    (λ c. rw (c.product.ensures, c.before.signed.ensures, c.before.before.read2.ensures, c.before.before.before.read.ensures)))
+    (λ c. rw (c.product.ensures, c.signed.ensures, c.read-Rr.ensures, c.read-Rd.ensures)))

@@ -14,5 +14,5 @@ fmuls_spec =
     (λ c κs. search rules)
     (λ c. search rules)
     (λ c.
-    let e = c.before.before.put-fraction.ensures in
-    rw (e.0, e.1, c.before.before.before.before.both_signed.ensures) (refl, refl)))
+    let e = c.put_fraction.ensures in
+    rw (e.0, e.1, c.both_signed-word.ensures) (refl, refl)))

@@ -15,5 +15,5 @@ put_fraction_spec =
     (λ c κs. search rules)
     (λ c. search rules)
     (λ c.
-    let p = c.before.before.before in
-    rw (c.cz.ensures, p.put_word.ensures, p.before.before.doubled.ensures) (refl, refl)))
+    let p = c in
+    rw (c.cz.ensures, p.put_word.ensures, p.doubled-twice.ensures) (refl, refl)))

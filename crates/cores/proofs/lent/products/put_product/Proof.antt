@@ -13,4 +13,4 @@ put_product_spec =
     (λ c κs. search rules)
     (λ c κs. search rules)
     (λ c. search rules)
-    (λ c. rw (c.cz.ensures, c.before.before.before.put_word.ensures) (refl, refl)))
+    (λ c. rw (c.cz.ensures, c.put_word.ensures) (refl, refl)))

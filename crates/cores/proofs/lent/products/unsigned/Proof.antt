@@ -15,4 +15,4 @@ unsigned_spec =
     (λ c. search rules)
     (λ c. search rules)
     (λ c κs. search rules)
-    (λ c. rw (c.product.ensures, c.before.read2.ensures, c.before.before.read.ensures)))
+    (λ c. rw (c.product.ensures, c.read-Rr.ensures, c.read-Rd.ensures)))
