@@ -12,10 +12,10 @@ slice_spec =
     tie.close
     (tie.spec
     (λ c. search rules)
-    (λ c. record { byte_lt = λ i. omega (arith, c.shared-slice-known.given i) })
+    (λ c. record { byte_lt = λ i. omega (arith, c.shared_slice_known-1.given i) })
     (λ c. record {
       byte_lt = λ i.
-          let m = c.before.args.bytes.now in
-          let none : get_or m i 0 ≡ 0 = get_or-eq_default m 0 (omega (arith, c.if1.false)) in
+          let m = c.args.bytes.now in
+          let none : get_or m i 0 ≡ 0 = get_or-eq_default m 0 (omega (arith, c.if-bytes-gt0.false)) in
           omega (arith, none);
     }))

@@ -4,10 +4,10 @@ use Rattle.std.proofs.Common.{◌-◌, ◌≤◌, rules}
 use Rattle.encoding.proofs.count.Statement.{statement}
 use Rattle.encoding.proofs.count.Tie as tie
 
-abbrev invariant_loop : tie.invariant_loop
+abbrev invariant_loop : tie.invariant-loop-pc
 invariant_loop program count₀ pc₀ count pc = pc ≤ 65536
 
-abbrev decreases_loop : tie.decreases_loop
+abbrev decreases_loop : tie.decreases-loop-pc
 decreases_loop program count₀ pc₀ count pc = 65536 - pc
 
 pub count_spec : {M : Type 1} → statement M

@@ -14,5 +14,5 @@ put_byte_spec =
     (λ c. search rules)
     (λ c. search rules)
     (λ c. search rules)
-    (λ c. record { is = rw (one_byte, lt-ltb _ _ c.if1.true) })
-    (λ c. record { is = rw (one_byte, le-ltb _ _ c.if1.false, set_out _ _ _ c.if1.false) }))
+    (λ c. record { is = rw (one_byte, lt-ltb _ _ c.if-at-out.true) })
+    (λ c. record { is = rw (one_byte, le-ltb _ _ c.if-at-out.false, set_out _ _ _ c.if-at-out.false) }))

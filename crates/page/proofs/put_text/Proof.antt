@@ -11,10 +11,10 @@ use Rattle.page.proofs.Laid.{none, both}
 use Rattle.page.proofs.put_text.Statement.{statement}
 use Rattle.page.proofs.put_text.Tie as tie
 
-abbrev invariant_loop : tie.invariant_loop
+abbrev invariant_loop : tie.invariant-loop-i
 invariant_loop out₀ at text end₀ i₀ out end i = (i ≤ length text) × ((length out ≡ length out₀) × Puts (page out₀ at) (take i text) (page out end))
 
-abbrev decreases_loop : tie.decreases_loop
+abbrev decreases_loop : tie.decreases-loop-i
 decreases_loop out₀ at text end₀ i₀ out end i = length text - i
 
 pub put_text_spec : {M : Type 1} → statement M
@@ -29,12 +29,12 @@ put_text_spec =
     (λ c. search rules)
     (λ c. search rules)
     (λ c.
-    let l = c.before.before.before.before.before.before in
-    let t = l.before.before.before.args.text.now in
-    let h : l.loop.i < length t = search rules in
-    (search rules, (search rules, rw (add-one l.loop.i, take-suc t l.loop.i 0 h) (both l.loop.invariant.1.1 c.before.before.put_byte.ensures))))
+    let l = c in
+    let t = l.args.text.now in
+    let h : l.loop-i.i < length t = search rules in
+    (search rules, (search rules, rw (add-one l.loop-i.i, take-suc t l.loop-i.i 0 h) (both l.loop-i.invariant.1.1 c.put_byte-end.ensures))))
     (λ c. search rules)
     (λ c.
-    let l = c.before.loop in
-    let t = c.before.before.before.before.args.text.now in
-    rw (sym (take_all l.i t c.loop-test.false)) l.invariant.1.1))
+    let l = c.loop-i in
+    let t = c.args.text.now in
+    rw (sym (take_all l.i t c.loop-i-test.false)) l.invariant.1.1))

@@ -25,6 +25,6 @@ st_spec =
     let stored = c.set_data_space-k.ensures in
     let p = c in
     record {
-      core = rw (c.set_word_if.ensures, stored.core, c.wrapping_add_u16.ensures, p.get_register.ensures, p.set_word_if-k.ensures, p.pointed-address.ensures, p.store_waits_lem.ensures);
-      bytes = stored.bytes ∙ rw (p.get_register.ensures, p.set_word_if-k.ensures, p.pointed-address.ensures, p.store_waits_lem.ensures);
+      core = rw (c.set_word_if.ensures, stored.core, c.wrapping_add_u16.ensures, p.get_register.ensures, p.set_word_if-k.ensures, p.pointed-address.ensures, p.store_waits.ensures);
+      bytes = stored.bytes ∙ rw (p.get_register.ensures, p.set_word_if-k.ensures, p.pointed-address.ensures, p.store_waits.ensures);
     }))

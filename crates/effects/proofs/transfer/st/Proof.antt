@@ -19,4 +19,4 @@ st_spec =
     (λ c κs. search rules)
     (λ c. search rules)
     (λ c. search rules)
-    (λ c. rw (c.leaves.ensures, c.before.store_waits_lem.ensures, c.before.before.before.before.set-word-if2.ensures, c.before.before.before.before.before.wrapping-add-u16.ensures, c.before.before.before.before.before.before.before.before.before.store-from.ensures.0, c.before.before.before.before.before.before.before.before.before.store-from.ensures.1, c.before.before.before.before.before.before.before.before.before.before.before.before.before.before.set-word-if.ensures, c.before.before.before.before.before.before.before.before.before.before.before.before.before.before.before.before.pointed.ensures) (refl, (refl, refl))))
+    (λ c. rw (c.leaves.ensures, c.before.store_waits.ensures, c.before.before.before.before.set-word-if2.ensures, c.before.before.before.before.before.wrapping-add-u16.ensures, c.before.before.before.before.before.before.before.before.before.store-from.ensures.0, c.before.before.before.before.before.before.before.before.before.store-from.ensures.1, c.before.before.before.before.before.before.before.before.before.before.before.before.before.before.set-word-if.ensures, c.before.before.before.before.before.before.before.before.before.before.before.before.before.before.before.before.pointed.ensures) (refl, (refl, refl))))

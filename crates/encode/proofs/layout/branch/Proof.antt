@@ -18,13 +18,13 @@ branch_spec =
     (λ c κs. search rules)
     (λ c κs. search rules)
     (λ c.
-    let a = c.before.before.before.before.args in
-    outside (is_bit a.s && is_offset7 a.k) c.none.result _ (rw (← c.before.before.before.is-bit.ensures, ← c.before.before.is-offset7.ensures) c.before.if1.true) c.none.ensures)
+    let a = c.args in
+    outside (is_bit a.s && is_offset7 a.k) c.none.result _ (rw (← c.is_bit.ensures, ← c.is_offset7.ensures) c.if-not-is_bit-is_offset7.true) c.none.ensures)
     (λ c. search rules)
     (λ c. search rules)
     (λ c. search rules)
     (λ c κs. search rules)
     (λ c.
-    let a = c.before.before.before.before.args in
-    inside (is_bit a.s && is_offset7 a.k) c.bare.result _ _ (rw (← c.before.before.before.is-bit.ensures, ← c.before.before.is-offset7.ensures) c.before.if1.false) c.bare.ensures
+    let a = c.args in
+    inside (is_bit a.s && is_offset7 a.k) c.bare.result _ _ (rw (← c.is_bit.ensures, ← c.is_offset7.ensures) c.if-not-is_bit-is_offset7.false) c.bare.ensures
     (λ e. let h = both_true (is_bit a.s) _ e in omega (arith, ltb-true a.s 8 h.0))))

@@ -16,9 +16,9 @@ constant_spec =
     (λ c κs. search rules)
     (λ c κs. search rules)
     (λ c.
-    let a = c.before.before.before.args in
+    let a = c.args in
     rw (known (is_high a.d) _ (lt-ltb a.K 256 (omega arith)))
-    (outside (is_high a.d) c.none.result _ (rw (← c.before.before.is-high.ensures) c.before.if1.true) c.none.ensures))
+    (outside (is_high a.d) c.none.result _ (rw (← c.is_high.ensures) c.if-not-is_high.true) c.none.ensures))
     (λ c. search rules)
     (λ c. search rules)
     (λ c. search rules)
@@ -26,6 +26,6 @@ constant_spec =
     (λ c. search rules)
     (λ c κs. search rules)
     (λ c.
-    let a = c.before.before.before.args in
+    let a = c.args in
     rw (known (is_high a.d) _ (lt-ltb a.K 256 (omega arith)))
-    (inside (is_high a.d) c.bare.result _ _ (rw (← c.before.before.is-high.ensures) c.before.if1.false) c.bare.ensures (λ h. refl))))
+    (inside (is_high a.d) c.bare.result _ _ (rw (← c.is_high.ensures) c.if-not-is_high.false) c.bare.ensures (λ h. refl))))

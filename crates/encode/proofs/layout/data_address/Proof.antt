@@ -16,12 +16,12 @@ data_address_spec =
     (λ c κs. search rules)
     (λ c κs. search rules)
     (λ c.
-    let a = c.before.before.before.args in
+    let a = c.args in
     rw (known (is_register a.d) _ (lt-ltb a.k 65536 (omega arith)))
-    (outside (is_register a.d) c.none.result _ (rw (← c.before.before.is-register.ensures) c.before.if1.true) c.none.ensures))
+    (outside (is_register a.d) c.none.result _ (rw (← c.is_register.ensures) c.if-not-is_register.true) c.none.ensures))
     (λ c. search rules)
     (λ c. search rules)
     (λ c.
-    let a = c.before.before.args in
+    let a = c.args in
     rw (known (is_register a.d) _ (lt-ltb a.k 65536 (omega arith)))
-    (inside_two (is_register a.d) _ _ _ _ (rw (← c.before.is-register.ensures) c.if1.false) (λ h. (omega (arith, ltb-true a.d 32 h), refl)))))
+    (inside_two (is_register a.d) _ _ _ _ (rw (← c.is_register.ensures) c.if-not-is_register.false) (λ h. (omega (arith, ltb-true a.d 32 h), refl)))))

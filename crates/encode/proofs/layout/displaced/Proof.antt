@@ -18,8 +18,8 @@ displaced_spec =
     (λ c κs. search rules)
     (λ c κs. search rules)
     (λ c.
-    let a = c.before.before.before.args in
-    outside (is_register a.d && ltb a.q 64) c.none.result _ (rw (← c.before.before.is-register.ensures) c.before.if1.true) c.none.ensures)
+    let a = c.args in
+    outside (is_register a.d && ltb a.q 64) c.none.result _ (rw (← c.is_register.ensures) c.if-not-is_register-q.true) c.none.ensures)
     (λ c. search rules)
     (λ c. search rules)
     (λ c. search rules)
@@ -29,6 +29,6 @@ displaced_spec =
     (λ c. search rules)
     (λ c κs. search rules)
     (λ c.
-    let a = c.before.before.before.args in
-    inside (is_register a.d && ltb a.q 64) c.bare.result _ _ (rw (← c.before.before.is-register.ensures) c.before.if1.false) c.bare.ensures
+    let a = c.args in
+    inside (is_register a.d && ltb a.q 64) c.bare.result _ _ (rw (← c.is_register.ensures) c.if-not-is_register-q.false) c.bare.ensures
     (λ e. let h = both_true (is_register a.d) _ e in omega (arith, ltb-true a.d 32 h.0, ltb-true a.q 64 h.1))))

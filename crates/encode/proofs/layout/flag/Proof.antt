@@ -15,12 +15,12 @@ flag_spec =
     (λ c κs. search rules)
     (λ c κs. search rules)
     (λ c.
-    let a = c.before.before.before.args in
-    outside (is_bit a.s) c.none.result _ (rw (← c.before.before.is-bit.ensures) c.before.if1.true) c.none.ensures)
+    let a = c.args in
+    outside (is_bit a.s) c.none.result _ (rw (← c.is_bit.ensures) c.if-not-is_bit.true) c.none.ensures)
     (λ c. search rules)
     (λ c. search rules)
     (λ c κs. search rules)
     (λ c.
-    let a = c.before.before.before.args in
-    inside (is_bit a.s) c.bare.result _ _ (rw (← c.before.before.is-bit.ensures) c.before.if1.false) c.bare.ensures
+    let a = c.args in
+    inside (is_bit a.s) c.bare.result _ _ (rw (← c.is_bit.ensures) c.if-not-is_bit.false) c.bare.ensures
     (λ h. omega (arith, ltb-true a.s 8 h))))

@@ -16,13 +16,13 @@ high_registers_spec =
     (λ c κs. search rules)
     (λ c κs. search rules)
     (λ c.
-    let a = c.before.before.before.before.args in
-    outside (is_high a.d && is_high a.r) c.none.result _ (rw (← c.before.before.before.is-high.ensures, ← c.before.before.is-high2.ensures) c.before.if1.true) c.none.ensures)
+    let a = c.args in
+    outside (is_high a.d && is_high a.r) c.none.result _ (rw (← c.is_high.ensures, ← c.is_high-2.ensures) c.if-not-is_high.true) c.none.ensures)
     (λ c. search rules)
     (λ c. search rules)
     (λ c. search rules)
     (λ c κs. search rules)
     (λ c.
-    let a = c.before.before.before.before.args in
-    inside (is_high a.d && is_high a.r) c.bare.result _ _ (rw (← c.before.before.before.is-high.ensures, ← c.before.before.is-high2.ensures) c.before.if1.false) c.bare.ensures
+    let a = c.args in
+    inside (is_high a.d && is_high a.r) c.bare.result _ _ (rw (← c.is_high.ensures, ← c.is_high-2.ensures) c.if-not-is_high.false) c.bare.ensures
     (λ h. refl)))

@@ -13,12 +13,12 @@ jump_target_spec =
     tie.close
     (tie.spec
     (λ c κs. search rules)
-    (λ c. rw (le-ltb c.before.before.args.k 4194304 c.before.if1.true) c.none.ensures)
+    (λ c. rw (le-ltb c.args.k 4194304 c.if-k-ge4194304.true) c.none.ensures)
     (λ c. search rules)
     (λ c. search rules)
     (λ c. search rules)
     (λ c. search rules)
     (λ c. search rules)
     (λ c.
-    let k = c.before.args.k in
-    inside_two (ltb k 4194304) _ _ _ _ (rw (lt-ltb k 4194304 c.if1.false)) (λ h. (omega arith, omega arith))))
+    let k = c.args.k in
+    inside_two (ltb k 4194304) _ _ _ _ (rw (lt-ltb k 4194304 c.if-k-ge4194304.false)) (λ h. (omega arith, omega arith))))

@@ -16,13 +16,13 @@ low_registers_spec =
     (λ c κs. search rules)
     (λ c κs. search rules)
     (λ c.
-    let a = c.before.before.before.before.args in
-    outside (is_low a.d && is_low a.r) c.none.result _ (rw (← c.before.before.before.is-low.ensures, ← c.before.before.is-low2.ensures) c.before.if1.true) c.none.ensures)
+    let a = c.args in
+    outside (is_low a.d && is_low a.r) c.none.result _ (rw (← c.is_low.ensures, ← c.is_low-2.ensures) c.if-not-is_low.true) c.none.ensures)
     (λ c. search rules)
     (λ c. search rules)
     (λ c. search rules)
     (λ c κs. search rules)
     (λ c.
-    let a = c.before.before.before.before.args in
-    inside (is_low a.d && is_low a.r) c.bare.result _ _ (rw (← c.before.before.before.is-low.ensures, ← c.before.before.is-low2.ensures) c.before.if1.false) c.bare.ensures
+    let a = c.args in
+    inside (is_low a.d && is_low a.r) c.bare.result _ _ (rw (← c.is_low.ensures, ← c.is_low-2.ensures) c.if-not-is_low.false) c.bare.ensures
     (λ h. refl)))

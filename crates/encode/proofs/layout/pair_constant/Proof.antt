@@ -18,8 +18,8 @@ pair_constant_spec =
     (λ c κs. search rules)
     (λ c κs. search rules)
     (λ c.
-    let a = c.before.before.before.args in
-    outside (is_last_pair a.d && ltb a.K 64) c.none.result _ (rw (← c.before.before.is-last-pair.ensures) c.before.if1.true) c.none.ensures)
+    let a = c.args in
+    outside (is_last_pair a.d && ltb a.K 64) c.none.result _ (rw (← c.is_last_pair.ensures) c.if-not-is_last_pair-K.true) c.none.ensures)
     (λ c. search rules)
     (λ c. search rules)
     (λ c. search rules)
@@ -27,6 +27,6 @@ pair_constant_spec =
     (λ c. search rules)
     (λ c κs. search rules)
     (λ c.
-    let a = c.before.before.before.args in
-    inside (is_last_pair a.d && ltb a.K 64) c.bare.result _ _ (rw (← c.before.before.is-last-pair.ensures) c.before.if1.false) c.bare.ensures
+    let a = c.args in
+    inside (is_last_pair a.d && ltb a.K 64) c.bare.result _ _ (rw (← c.is_last_pair.ensures) c.if-not-is_last_pair-K.false) c.bare.ensures
     (λ e. let h = both_true (is_last_pair a.d) _ e in omega (arith, ltb-true a.K 64 h.1))))

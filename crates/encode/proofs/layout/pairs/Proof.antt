@@ -18,13 +18,13 @@ pairs_spec =
     (λ c κs. search rules)
     (λ c κs. search rules)
     (λ c.
-    let a = c.before.before.before.before.args in
-    outside (is_pair a.d && is_pair a.r) c.none.result _ (rw (← c.before.before.before.is-pair.ensures, ← c.before.before.is-pair2.ensures) c.before.if1.true) c.none.ensures)
+    let a = c.args in
+    outside (is_pair a.d && is_pair a.r) c.none.result _ (rw (← c.is_pair.ensures, ← c.is_pair-2.ensures) c.if-not-is_pair.true) c.none.ensures)
     (λ c. search rules)
     (λ c. search rules)
     (λ c. search rules)
     (λ c κs. search rules)
     (λ c.
-    let a = c.before.before.before.before.args in
-    inside (is_pair a.d && is_pair a.r) c.bare.result _ _ (rw (← c.before.before.before.is-pair.ensures, ← c.before.before.is-pair2.ensures) c.before.if1.false) c.bare.ensures
+    let a = c.args in
+    inside (is_pair a.d && is_pair a.r) c.bare.result _ _ (rw (← c.is_pair.ensures, ← c.is_pair-2.ensures) c.if-not-is_pair.false) c.bare.ensures
     (λ e. let h = both_true (is_pair a.d) _ e in omega (arith, ltb-true a.d 32 (both_true _ _ h.0).0, ltb-true a.r 32 (both_true _ _ h.1).0))))

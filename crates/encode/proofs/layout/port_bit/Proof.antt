@@ -18,13 +18,13 @@ port_bit_spec =
     (λ c κs. search rules)
     (λ c κs. search rules)
     (λ c.
-    let a = c.before.before.before.args in
-    outside (ltb a.A 32 && is_bit a.b) c.none.result _ (rw (← c.before.before.is-bit.ensures) c.before.if1.true) c.none.ensures)
+    let a = c.args in
+    outside (ltb a.A 32 && is_bit a.b) c.none.result _ (rw (← c.is_bit.ensures) c.if-not-A-is_bit.true) c.none.ensures)
     (λ c. search rules)
     (λ c. search rules)
     (λ c. search rules)
     (λ c κs. search rules)
     (λ c.
-    let a = c.before.before.before.args in
-    inside (ltb a.A 32 && is_bit a.b) c.bare.result _ _ (rw (← c.before.before.is-bit.ensures) c.before.if1.false) c.bare.ensures
+    let a = c.args in
+    inside (ltb a.A 32 && is_bit a.b) c.bare.result _ _ (rw (← c.is_bit.ensures) c.if-not-A-is_bit.false) c.bare.ensures
     (λ e. let h = both_true (ltb a.A 32) _ e in omega (arith, ltb-true a.A 32 h.0, ltb-true a.b 8 h.1))))

@@ -15,12 +15,12 @@ register_spec =
     (λ c κs. search rules)
     (λ c κs. search rules)
     (λ c.
-    let a = c.before.before.before.args in
-    outside (is_register a.d) c.none.result _ (rw (← c.before.before.is-register.ensures) c.before.if1.true) c.none.ensures)
+    let a = c.args in
+    outside (is_register a.d) c.none.result _ (rw (← c.is_register.ensures) c.if-not-is_register.true) c.none.ensures)
     (λ c. search rules)
     (λ c. search rules)
     (λ c κs. search rules)
     (λ c.
-    let a = c.before.before.before.args in
-    inside (is_register a.d) c.bare.result _ _ (rw (← c.before.before.is-register.ensures) c.before.if1.false) c.bare.ensures
+    let a = c.args in
+    inside (is_register a.d) c.bare.result _ _ (rw (← c.is_register.ensures) c.if-not-is_register.false) c.bare.ensures
     (λ h. omega (arith, ltb-true a.d 32 h))))

@@ -18,8 +18,8 @@ registers_spec =
     (λ c κs. search rules)
     (λ c κs. search rules)
     (λ c.
-    let a = c.before.before.before.before.args in
-    outside (is_register a.d && is_register a.r) c.none.result _ (rw (← c.before.before.before.is-register.ensures, ← c.before.before.is-register2.ensures) c.before.if1.true) c.none.ensures)
+    let a = c.args in
+    outside (is_register a.d && is_register a.r) c.none.result _ (rw (← c.is_register.ensures, ← c.is_register-2.ensures) c.if-not-is_register.true) c.none.ensures)
     (λ c. search rules)
     (λ c. search rules)
     (λ c. search rules)
@@ -27,6 +27,6 @@ registers_spec =
     (λ c. search rules)
     (λ c κs. search rules)
     (λ c.
-    let a = c.before.before.before.before.args in
-    inside (is_register a.d && is_register a.r) c.bare.result _ _ (rw (← c.before.before.before.is-register.ensures, ← c.before.before.is-register2.ensures) c.before.if1.false) c.bare.ensures
+    let a = c.args in
+    inside (is_register a.d && is_register a.r) c.bare.result _ _ (rw (← c.is_register.ensures, ← c.is_register-2.ensures) c.if-not-is_register.false) c.bare.ensures
     (λ e. let h = both_true (is_register a.d) _ e in omega (arith, ltb-true a.d 32 h.0, ltb-true a.r 32 h.1))))

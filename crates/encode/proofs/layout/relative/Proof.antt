@@ -14,11 +14,11 @@ relative_spec =
     (λ c κs. search rules)
     (λ c κs. search rules)
     (λ c.
-    let a = c.before.before.before.args in
-    outside (is_offset12 a.k) c.none.result _ (rw (← c.before.before.is-offset12.ensures) c.before.if1.true) c.none.ensures)
+    let a = c.args in
+    outside (is_offset12 a.k) c.none.result _ (rw (← c.is_offset12.ensures) c.if-not-is_offset12.true) c.none.ensures)
     (λ c. search rules)
     (λ c κs. search rules)
     (λ c.
-    let a = c.before.before.before.args in
-    inside (is_offset12 a.k) c.bare.result _ _ (rw (← c.before.before.is-offset12.ensures) c.before.if1.false) c.bare.ensures
+    let a = c.args in
+    inside (is_offset12 a.k) c.bare.result _ _ (rw (← c.is_offset12.ensures) c.if-not-is_offset12.false) c.bare.ensures
     (λ h. refl)))

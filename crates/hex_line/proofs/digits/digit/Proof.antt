@@ -6,10 +6,10 @@ use Rattle.hex_line.specs.Way.{digit_of}
 use Rattle.hex_line.proofs.digits.digit.Statement.{statement}
 use Rattle.hex_line.proofs.digits.digit.Tie as tie
 
-mul_result : tie.Need-overflow-mul-result
+mul_result : tie.Need-overflow_mul-result
 mul_result c = search rules
 
-add_result : tie.Need-overflow-add-result
+add_result : tie.Need-overflow_add-result
 add_result c = search rules
 
 returns : tie.Need-returns

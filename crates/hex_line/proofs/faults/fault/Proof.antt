@@ -7,56 +7,56 @@ use Rattle.hex_line.proofs.Judged.{colon_digits}
 use Rattle.hex_line.proofs.faults.fault.Statement.{statement}
 use Rattle.hex_line.proofs.faults.fault.Tie as tie
 
-wrong_character_requires : tie.Need-wrong-character-requires
+wrong_character_requires : tie.Need-wrong_character-requires
 wrong_character_requires c κs = search rules
 
-returns : tie.Need-returns
+returns : tie.Need-returns-then-wrong_character
 unfolding fault_of
 returns c =
     let character = c.before in
-    rw (← character.wrong-character.ensures, c.if1.true)
+    rw (← character.wrong_character.ensures, c.if-wrong_character.true)
 
-wrong_length_requires : tie.Need-wrong-length-requires
+wrong_length_requires : tie.Need-wrong_length-requires
 wrong_length_requires c κs =
     let character = c.before in
-    colon_digits character.before.before.args.line.now (sym character.wrong-character.ensures ∙ c.if1.false)
+    colon_digits character.before.before.args.line.now (sym character.wrong_character.ensures ∙ c.if-wrong_character.false)
 
-returns_2 : tie.Need-returns-2
+returns_2 : tie.Need-returns-then-wrong_length
 unfolding fault_of
 returns_2 c =
     let length = c.before in
     let character = length.before.before in
-    rw (← character.wrong-character.ensures, length.before.if1.false, ← length.wrong-length.ensures, c.if2.true)
+    rw (← character.wrong_character.ensures, length.before.if-wrong_character.false, ← length.wrong_length.ensures, c.if-wrong_length.true)
 
-wrong_sum_requires : tie.Need-wrong-sum-requires
+wrong_sum_requires : tie.Need-wrong_sum-requires
 wrong_sum_requires c κs =
     let length = c.before in
     let character = length.before.before in
-    colon_digits character.before.before.args.line.now (sym character.wrong-character.ensures ∙ length.before.if1.false)
+    colon_digits character.before.before.args.line.now (sym character.wrong_character.ensures ∙ length.before.if-wrong_character.false)
 
-returns_3 : tie.Need-returns-3
+returns_3 : tie.Need-returns-then-wrong_sum
 unfolding fault_of
 returns_3 c =
     let sum = c.before in
     let length = sum.before.before in
     let character = length.before.before in
     rw (
-      ← character.wrong-character.ensures,
-      length.before.if1.false,
-      ← length.wrong-length.ensures,
-      sum.before.if2.false,
-      ← sum.wrong-sum.ensures,
-      c.if3.true,
+      ← character.wrong_character.ensures,
+      length.before.if-wrong_character.false,
+      ← length.wrong_length.ensures,
+      sum.before.if-wrong_length.false,
+      ← sum.wrong_sum.ensures,
+      c.if-wrong_sum.true,
     )
 
-wrong_type_requires : tie.Need-wrong-type-requires
+wrong_type_requires : tie.Need-wrong_type-requires
 wrong_type_requires c κs =
     let sum = c.before in
     let length = sum.before.before in
     let character = length.before.before in
-    colon_digits character.before.before.args.line.now (sym character.wrong-character.ensures ∙ length.before.if1.false)
+    colon_digits character.before.before.args.line.now (sym character.wrong_character.ensures ∙ length.before.if-wrong_character.false)
 
-returns_4 : tie.Need-returns-4
+returns_4 : tie.Need-returns-then-wrong_type
 unfolding fault_of
 returns_4 c =
     let kind = c.before in
@@ -64,14 +64,14 @@ returns_4 c =
     let length = sum.before.before in
     let character = length.before.before in
     rw (
-      ← character.wrong-character.ensures,
-      length.before.if1.false,
-      ← length.wrong-length.ensures,
-      sum.before.if2.false,
-      ← sum.wrong-sum.ensures,
-      kind.before.if3.false,
-      ← kind.Wrong-type.ensures,
-      c.if4.true,
+      ← character.wrong_character.ensures,
+      length.before.if-wrong_character.false,
+      ← length.wrong_length.ensures,
+      sum.before.if-wrong_length.false,
+      ← sum.wrong_sum.ensures,
+      kind.before.if-wrong_sum.false,
+      ← kind.wrong_type.ensures,
+      c.if-wrong_type.true,
     )
 
 outside_requires : tie.Need-outside-requires
@@ -80,9 +80,9 @@ outside_requires c κs =
     let sum = kind.before.before in
     let length = sum.before.before in
     let character = length.before.before in
-    colon_digits character.before.before.args.line.now (sym character.wrong-character.ensures ∙ length.before.if1.false)
+    colon_digits character.before.before.args.line.now (sym character.wrong_character.ensures ∙ length.before.if-wrong_character.false)
 
-returns_5 : tie.Need-returns-5
+returns_5 : tie.Need-returns-then-outside
 unfolding fault_of
 returns_5 c =
     let outside = c.before in
@@ -91,16 +91,16 @@ returns_5 c =
     let length = sum.before.before in
     let character = length.before.before in
     rw (
-      ← character.wrong-character.ensures,
-      length.before.if1.false,
-      ← length.wrong-length.ensures,
-      sum.before.if2.false,
-      ← sum.wrong-sum.ensures,
-      kind.before.if3.false,
-      ← kind.Wrong-type.ensures,
-      outside.before.if4.false,
+      ← character.wrong_character.ensures,
+      length.before.if-wrong_character.false,
+      ← length.wrong_length.ensures,
+      sum.before.if-wrong_length.false,
+      ← sum.wrong_sum.ensures,
+      kind.before.if-wrong_sum.false,
+      ← kind.wrong_type.ensures,
+      outside.before.if-wrong_type.false,
       ← outside.outside.ensures,
-      c.if5.true,
+      c.if-outside.true,
     )
 
 falls_requires : tie.Need-falls-requires
@@ -110,9 +110,9 @@ falls_requires c κs =
     let sum = kind.before.before in
     let length = sum.before.before in
     let character = length.before.before in
-    colon_digits character.before.before.args.line.now (sym character.wrong-character.ensures ∙ length.before.if1.false)
+    colon_digits character.before.before.args.line.now (sym character.wrong_character.ensures ∙ length.before.if-wrong_character.false)
 
-returns_6 : tie.Need-returns-6
+returns_6 : tie.Need-returns-then-falls
 unfolding fault_of
 returns_6 c =
     let falls = c.before in
@@ -122,21 +122,21 @@ returns_6 c =
     let length = sum.before.before in
     let character = length.before.before in
     rw (
-      ← character.wrong-character.ensures,
-      length.before.if1.false,
-      ← length.wrong-length.ensures,
-      sum.before.if2.false,
-      ← sum.wrong-sum.ensures,
-      kind.before.if3.false,
-      ← kind.Wrong-type.ensures,
-      outside.before.if4.false,
+      ← character.wrong_character.ensures,
+      length.before.if-wrong_character.false,
+      ← length.wrong_length.ensures,
+      sum.before.if-wrong_length.false,
+      ← sum.wrong_sum.ensures,
+      kind.before.if-wrong_sum.false,
+      ← kind.wrong_type.ensures,
+      outside.before.if-wrong_type.false,
       ← outside.outside.ensures,
-      falls.before.if5.false,
+      falls.before.if-outside.false,
       ← falls.falls.ensures,
-      c.if6.true,
+      c.if-falls.true,
     )
 
-returns_7 : tie.Need-returns-7
+returns_7 : tie.Need-returns
 unfolding fault_of
 returns_7 c =
     let falls = c.before in
@@ -146,18 +146,18 @@ returns_7 c =
     let length = sum.before.before in
     let character = length.before.before in
     rw (
-      ← character.wrong-character.ensures,
-      length.before.if1.false,
-      ← length.wrong-length.ensures,
-      sum.before.if2.false,
-      ← sum.wrong-sum.ensures,
-      kind.before.if3.false,
-      ← kind.Wrong-type.ensures,
-      outside.before.if4.false,
+      ← character.wrong_character.ensures,
+      length.before.if-wrong_character.false,
+      ← length.wrong_length.ensures,
+      sum.before.if-wrong_length.false,
+      ← sum.wrong_sum.ensures,
+      kind.before.if-wrong_sum.false,
+      ← kind.wrong_type.ensures,
+      outside.before.if-wrong_type.false,
       ← outside.outside.ensures,
-      falls.before.if5.false,
+      falls.before.if-outside.false,
       ← falls.falls.ensures,
-      c.if6.false,
+      c.if-falls.false,
     )
 
 pub fault_spec : {M : Type 1} → statement M

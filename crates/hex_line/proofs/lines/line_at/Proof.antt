@@ -10,52 +10,52 @@ use Rattle.hex_line.proofs.Found.{end_out, end_inside, stops, stops_out, goes_on
 use Rattle.hex_line.proofs.lines.line_at.Statement.{statement}
 use Rattle.hex_line.proofs.lines.line_at.Tie as tie
 
-abbrev invariant_loop : tie.invariant_loop
+abbrev invariant_loop : tie.invariant-loop-i
 invariant_loop text at i₀ i = stop_of text at ≡ stop_of text i
 
-abbrev decreases_loop : tie.decreases_loop
+abbrev decreases_loop : tie.decreases-loop-i
 decreases_loop text at i₀ i = length text - i
 
-loop_holds : tie.Need-loop-init invariant_loop decreases_loop
+loop_holds : tie.Need-loop-i-init invariant_loop decreases_loop
 loop_holds c = refl
 
-end_length_requires : tie.Need-end-length-requires invariant_loop decreases_loop
+end_length_requires : tie.Need-end_length-n-requires invariant_loop decreases_loop
 end_length_requires c κs = search rules
 
-add_t7 : tie.Need-overflow-add-t7 invariant_loop decreases_loop
+add_t7 : tie.Need-overflow_add-result invariant_loop decreases_loop
 add_t7 c =
     let l = c.before.before.before in
     let t = l.before.before.args.text.now in
-    let n = c.before.end-length.ensures in
-    let k = end_inside t l.loop.i (search rules) in
+    let n = c.before.end_length-n.ensures in
+    let k = end_inside t l.loop-i.i (search rules) in
     search rules
 
-returns : tie.Need-returns invariant_loop decreases_loop
+returns : tie.Need-returns-then-n-gt0 invariant_loop decreases_loop
 returns c =
     let l = c.before.before.before in
     let t = l.before.before.args.text.now in
-    let n = c.before.end-length.ensures in
-    let ended : 0 < end_length (drop l.loop.i t) = rw n at c.if1.true in
-    rw (l.loop.invariant, stops t l.loop.i ended, n)
+    let n = c.before.end_length-n.ensures in
+    let ended : 0 < end_length (drop l.loop-i.i t) = rw n at c.if-n-gt0.true in
+    rw (l.loop-i.invariant, stops t l.loop-i.i ended, n)
 
-add_i : tie.Need-overflow-add-i invariant_loop decreases_loop
+add_i : tie.Need-overflow_add-i invariant_loop decreases_loop
 add_i c = search rules
 
-loop_less : tie.Need-loop-smaller invariant_loop decreases_loop
+loop_less : tie.Need-loop-i-smaller invariant_loop decreases_loop
 loop_less c = search rules
 
-loop_again : tie.Need-loop-preserved invariant_loop decreases_loop
+loop_again : tie.Need-loop-i-preserved invariant_loop decreases_loop
 loop_again c =
     let l = c.before.before.before in
     let t = l.before.before.args.text.now in
-    let none : end_length (drop l.loop.i t) ≤ 0 = rw c.before.end-length.ensures at c.if1.false in
-    l.loop.invariant ∙ goes_on t l.loop.i (search rules) none
+    let none : end_length (drop l.loop-i.i t) ≤ 0 = rw c.before.end_length-n.ensures at c.if-n-gt0.false in
+    l.loop-i.invariant ∙ goes_on t l.loop-i.i (search rules) none
 
-returns_2 : tie.Need-returns-2 invariant_loop decreases_loop
+returns_2 : tie.Need-returns invariant_loop decreases_loop
 returns_2 c =
     let l = c.before in
     let t = l.before.before.args.text.now in
-    rw (l.loop.invariant, stops_out t l.loop.i c.loop-test.false, end_out t l.loop.i c.loop-test.false, add-zero)
+    rw (l.loop-i.invariant, stops_out t l.loop-i.i c.loop-i-test.false, end_out t l.loop-i.i c.loop-i-test.false, add-zero)
 
 pub line_at_spec : {M : Type 1} → statement M
 line_at_spec =

@@ -15,8 +15,8 @@ put_line_spec =
     (λ c. search rules)
     (λ c. search rules)
     (λ c.
-    let end = c.before.before in
+    let end = c in
     let row = end.before.before.before.before in
     let space = row.before.before.before.before in
     let address = space.before.before.before.before in
-    both (both (both address.put-hex4.ensures space.put_byte.ensures) row.put-row.ensures) end.put-byte2.ensures))
+    both (both (both address.put_hex4-at.ensures space.put_byte-at.ensures) row.put_row-at.ensures) end.put_byte.ensures))

@@ -29,26 +29,26 @@ put_row_spec =
     (λ c. search rules)
     (λ c. search rules)
     (λ c.
-    let second = c.before.before in
+    let second = c in
     let byte = second.before.before.before.before in
     let first = byte.before.before.before.before.before in
     let told = first.before.before.before in
-    rw told.row.given.1 (both (both first.put-hex2.ensures byte.put-text.ensures) second.put-hex22.ensures))
+    rw told.row-1.given.1 (both (both first.put_hex2-at.ensures byte.put_text-at.ensures) second.put_hex2.ensures))
     (λ c. search rules)
     (λ c.
-    let said = c.before.before in
+    let said = c in
     let shown = said.before in
     let spaces = shown.before.before.before.before in
     let word = spaces.before.before.before.before.before in
     let told = word.before.before.before in
-    rw (told.row2.given.1, ← shown.Shown-of.ensures.0, ← shown.Shown-of.ensures.1) (both (both word.put-hex4.ensures spaces.put-text2.ensures) said.put-shown.ensures))
+    rw (told.row-in-Single-1.given.1, ← shown.shown_of.ensures.0, ← shown.shown_of.ensures.1) (both (both word.put_hex4-at.ensures spaces.put_text-at-in-Single.ensures) said.put_shown.ensures))
     (λ c. search rules)
     (λ c.
-    let said = c.before.before in
+    let said = c in
     let shown = said.before in
     let after = shown.before.before.before.before in
     let second = after.before.before.before.before in
     let space = second.before.before.before.before in
     let first = space.before.before.before.before in
     let told = first.before.before.before in
-    rw (told.row3.given.1, ← shown.shown-of2.ensures.0, ← shown.shown-of2.ensures.1) (both (both (both (both first.put-hex42.ensures space.put_byte.ensures) second.put-hex43.ensures) after.put-byte2.ensures) said.put-shown2.ensures)))
+    rw (told.row-in-Double-1.given.1, ← shown.shown_of-in-Double.ensures.0, ← shown.shown_of-in-Double.ensures.1) (both (both (both (both first.put_hex4-at-in-Double.ensures space.put_byte-at.ensures) second.put_hex4-at-in-Double-2.ensures) after.put_byte-at-in-Double.ensures) said.put_shown-in-Double.ensures)))

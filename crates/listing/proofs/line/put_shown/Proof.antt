@@ -24,19 +24,19 @@ put_shown_spec =
     (λ c. search rules)
     (λ c. search rules)
     (λ c.
-    let name = c.before.before in
-    rw (name.before.before.before.shown.given.1, append-nil) name.put-name.ensures)
+    let name = c in
+    rw (name.shown-1.given.1, append-nil) name.put_name.ensures)
     (λ c. search rules)
     (λ c.
-    let first = c.before.before in
+    let first = c in
     let space = first.before.before.before.before in
     let name = space.before.before.before.before in
-    rw name.before.before.before.shown2.given.1 (both name.put-name2.ensures (both space.put_byte.ensures first.put-operand.ensures)))
+    rw name.shown-in-One-1.given.1 (both name.put_name-at.ensures (both space.put_byte-at.ensures first.put_operand.ensures)))
     (λ c. search rules)
     (λ c.
-    let second = c.before.before in
+    let second = c in
     let comma = second.before.before.before.before in
     let first = comma.before.before.before.before.before in
     let space = first.before.before.before.before in
     let name = space.before.before.before.before in
-    rw name.before.before.before.shown3.given.1 (both name.put-name3.ensures (both (both (both space.put-byte2.ensures first.put-operand2.ensures) comma.put-text.ensures) second.put-operand3.ensures))))
+    rw name.shown-in-Two-1.given.1 (both name.put_name-at-in-Two.ensures (both (both (both space.put_byte-at-in-Two.ensures first.put_operand-at.ensures) comma.put_text-at.ensures) second.put_operand-in-Two.ensures))))

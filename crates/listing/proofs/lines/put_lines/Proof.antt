@@ -7,11 +7,11 @@ use Rattle.listing.proofs.Unroll.{rest, some_word, begun, spent, goes_on}
 use Rattle.listing.proofs.lines.put_lines.Statement.{statement}
 use Rattle.listing.proofs.lines.put_lines.Tie as tie
 
-abbrev invariant_loop : tie.invariant_loop
+abbrev invariant_loop : tie.invariant-loop-pc
 invariant_loop out₀ program pc₀ at₀ out pc at =
     (pc ≤ 131072) × ((length out ≡ length out₀) × (with_text (page out₀ 0) (text_of (lines_of program)) ≡ with_text (page out at) (text_of (rest program pc))))
 
-abbrev decreases_loop : tie.decreases_loop
+abbrev decreases_loop : tie.decreases-loop-pc
 decreases_loop out₀ program pc₀ at₀ out pc at = length program - pc * 2
 
 pub put_lines_spec : {M : Type 1} → statement M
@@ -20,7 +20,7 @@ put_lines_spec =
     (tie.spec
     invariant_loop
     decreases_loop
-    (λ c. (search rules, (search rules, rw (begun c.before.before.args.program.now))))
+    (λ c. (search rules, (search rules, rw (begun c.args.program.now))))
     (λ c. search rules)
     (λ c. search rules)
     (λ c. search rules)
@@ -31,16 +31,16 @@ put_lines_spec =
     (λ c. search rules)
     (λ c. search rules)
     (λ c.
-    let one = some_word c.before.before.before.before.before.row_at_lem.result in
+    let one = some_word c.row_at-row.result in
     search rules)
     (λ c.
-    let row = c.before.before.before.before.before in
-    let l = row.before.before.loop in
-    let a = row.before.before.before.before.before.args in
-    let turn = goes_on a.program.now l.pc (page l.out l.at) _ _ _ row.before.loop-test.true row.row_at_lem.ensures c.words-in.ensures c.before.before.before.put-line.ensures in
+    let row = c in
+    let l = row.loop-pc in
+    let a = row.args in
+    let turn = goes_on a.program.now l.pc (page l.out-1 l.at) _ _ _ row.loop-pc-test.true row.row_at-row.ensures c.words_in.ensures c.put_line-at.ensures in
     (search rules, (search rules, rw l.invariant.1.1 turn)))
     (λ c. search rules)
     (λ c.
-    let l = c.before.loop in
-    let a = c.before.before.before.before.args in
-    record { is = rw l.invariant.1.1 (sym (spent a.program.now l.pc (page l.out l.at) c.loop-test.false)) }))
+    let l = c.loop-pc in
+    let a = c.args in
+    record { is = rw l.invariant.1.1 (sym (spent a.program.now l.pc (page l.out-1 l.at) c.loop-pc-test.false)) }))

@@ -10,27 +10,27 @@ pub put_name_spec : {M : Type 1} → statement M
 put_name_spec =
     tie.close
     (tie.spec
-    (λ c. rw (past _ c.if1.true) (none _))
+    (λ c. rw (past _ c.if-form-gt86.true) (none _))
     (λ c κs. search rules)
     (λ c. search rules)
     (λ c. search rules)
     (λ c. search rules)
-    (λ c. (c.names.ensures c.before.before.before.args.form c.before.if1.false).low)
+    (λ c. (c.names-names.ensures c.args.form c.if-form-gt86.false).low)
     (λ c.
-    let e = c.names.ensures c.before.before.before.args.form c.before.if1.false in
+    let e = c.names-names.ensures c.args.form c.if-form-gt86.false in
     search rules)
     (λ c.
-    let e = c.names.ensures c.before.before.before.args.form c.before.if1.false in
+    let e = c.names-names.ensures c.args.form c.if-form-gt86.false in
     search rules)
     (λ c. search rules)
     (λ c. search rules)
     (λ c.
-    let t = c.before.before in
-    let e = t.names.ensures t.before.before.before.args.form t.before.if1.false in
+    let t = c in
+    let e = t.names-names.ensures t.args.form t.if-form-gt86.false in
     search rules)
     (λ c κs. search rules)
     (λ c. search rules)
     (λ c.
-    let t = c.before.before.before.before.before.before in
-    let e = t.names.ensures t.before.before.before.args.form t.before.if1.false in
-    put t.names.result t.before.before.before.args.form e c.before.before.put-text.ensures))
+    let t = c in
+    let e = t.names-names.ensures t.args.form t.if-form-gt86.false in
+    put t.names-names.result t.args.form e c.put_text.ensures))

@@ -13,4 +13,4 @@ put_byte_number_spec =
     (λ c. search rules)
     (λ c. search rules)
     (λ c. search rules)
-    (λ c. both c.before.before.before.before.before.before.put-text.ensures c.before.before.put-hex2.ensures))
+    (λ c. both c.put_text-at.ensures c.put_hex2.ensures))

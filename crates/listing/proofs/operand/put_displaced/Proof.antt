@@ -14,7 +14,7 @@ put_displaced_spec =
     (λ c. search rules)
     (λ c. search rules)
     (λ c.
-    let number = c.before.before in
+    let number = c in
     let plus = number.before.before.before.before in
     let pointer = plus.before.before.before.before in
-    both (both pointer.put_byte.ensures plus.put-byte2.ensures) number.put-decimal.ensures))
+    both (both pointer.put_byte-at.ensures plus.put_byte-at-2.ensures) number.put_decimal.ensures))

@@ -15,7 +15,7 @@ put_pair_spec =
     (λ c. search rules)
     (λ c. search rules)
     (λ c.
-    let lower = c.before.before in
+    let lower = c in
     let colon = lower.before.before.before.before in
     let upper = colon.before.before.before.before in
-    both (both upper.put-register.ensures colon.put_byte.ensures) lower.put-register2.ensures))
+    both (both upper.put_register-at.ensures colon.put_byte-at.ensures) lower.put_register.ensures))

@@ -12,4 +12,4 @@ put_register_spec =
     (λ c. search rules)
     (λ c. search rules)
     (λ c. search rules)
-    (λ c. both c.before.before.before.before.before.before.put_byte.ensures c.before.before.put-decimal.ensures))
+    (λ c. both c.put_byte-at.ensures c.put_decimal.ensures))

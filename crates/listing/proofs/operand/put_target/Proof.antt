@@ -24,5 +24,5 @@ put_target_spec =
     (λ c. search rules)
     (λ c. search rules)
     (λ c.
-    let high = c.before.before.before.before.before.before in
-    both (low_byte (high.before.before.before.args.k / 65536) high.put-byte-number.ensures) c.before.before.put-hex4.ensures))
+    let high = c in
+    both (low_byte (high.args.k / 65536) high.put_byte_number-at.ensures) c.put_hex4.ensures))

@@ -13,4 +13,4 @@ put_word_number_spec =
     (λ c. search rules)
     (λ c. search rules)
     (λ c. search rules)
-    (λ c. both c.before.before.before.before.before.before.put-text.ensures c.before.before.put-hex4.ensures))
+    (λ c. both c.put_text-at.ensures c.put_hex4.ensures))

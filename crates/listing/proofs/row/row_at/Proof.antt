@@ -14,34 +14,34 @@ row_at_spec =
     (λ c. search rules)
     (λ c. search rules)
     (λ c.
-    let has = c.before.before in
-    rw (← has.Has-word.ensures, not-true has.Has-word.result c.before.if1.true, c.read.ensures))
+    let has = c in
+    rw (← has.has_word.ensures, c.if-not-has_word.true, c.read.ensures))
     (λ c. search rules)
     (λ c. search rules)
     (λ c. search rules)
     (λ c. search rules)
     (λ c. search rules)
     (λ c.
-    let two = c.before in
+    let two = c in
     let second = two.before.before in
     let first = second.before in
     let has = first.before.before in
-    rw (← has.Has-word.ensures, not-false has.Has-word.result first.before.if1.false, ← first.get_progmem.ensures, ← second.get-progmem2.ensures, ← two.before.decode.ensures, ← two.two_words.ensures, not-true two.two_words.result c.if2.true))
+    rw (← has.has_word.ensures, not-false has.has_word.result first.if-not-has_word.false, ← first.get_progmem-w.ensures, ← second.get_progmem-s.ensures, ← two.decode-op.ensures, ← two.two_words.ensures, c.if-not-two_words.true))
     (λ c. search rules)
     (λ c. search rules)
     (λ c.
-    let two = c.before.before.before in
+    let two = c in
     let second = two.before.before in
     let first = second.before in
     let has = first.before.before in
-    let a = has.before.before.args in
-    let missing : has_word_of a.program.now (a.pc + 1) ≡ false = sym c.before.has-word2.ensures ∙ not-true c.before.has-word2.result c.if3.true in
-    rw (← has.Has-word.ensures, not-false has.Has-word.result first.before.if1.false, ← first.get_progmem.ensures, ← second.get-progmem2.ensures, ← two.before.decode.ensures, ← two.two_words.ensures, not-false two.two_words.result c.before.before.if2.false, missing))
+    let a = has.args in
+    let missing : has_word_of a.program.now (a.pc + 1) ≡ false = sym c.has_word-2.ensures ∙ c.if-not-has_word-2.true in
+    rw (← has.has_word.ensures, not-false has.has_word.result first.if-not-has_word.false, ← first.get_progmem-w.ensures, ← second.get_progmem-s.ensures, ← two.decode-op.ensures, ← two.two_words.ensures, c.if-not-two_words.false, missing))
     (λ c.
-    let two = c.before.before.before in
+    let two = c in
     let second = two.before.before in
     let first = second.before in
     let has = first.before.before in
-    let a = has.before.before.args in
-    let there : has_word_of a.program.now (a.pc + 1) ≡ true = sym c.before.has-word2.ensures ∙ not-false c.before.has-word2.result c.if3.false in
-    rw (← has.Has-word.ensures, not-false has.Has-word.result first.before.if1.false, ← first.get_progmem.ensures, ← second.get-progmem2.ensures, ← two.before.decode.ensures, ← two.two_words.ensures, not-false two.two_words.result c.before.before.if2.false, there)))
+    let a = has.args in
+    let there : has_word_of a.program.now (a.pc + 1) ≡ true = sym c.has_word-2.ensures ∙ c.if-not-has_word-2.false in
+    rw (← has.has_word.ensures, not-false has.has_word.result first.if-not-has_word.false, ← first.get_progmem-w.ensures, ← second.get_progmem-s.ensures, ← two.decode-op.ensures, ← two.two_words.ensures, c.if-not-two_words.false, there)))

@@ -26,9 +26,9 @@ put_decimal_spec =
     (λ c κs. search rules)
     (λ c. search rules)
     (λ c.
-    let last = c.before.before in
+    let last = c in
     let tens = last.before.before.before.before in
     let hundreds = tens.before.before.before.before in
     let thousands = hundreds.before.before.before.before in
     let first = thousands.before.before.before.before in
-    both (both (both (both first.put_if.ensures thousands.put-if2.ensures) hundreds.put-if3.ensures) tens.put-if4.ensures) last.put_byte.ensures))
+    both (both (both (both first.put_if-at.ensures thousands.put_if-at-2.ensures) hundreds.put_if-at-3.ensures) tens.put_if-at-4.ensures) last.put_byte.ensures))

@@ -15,4 +15,4 @@ put_hex2_spec =
     (λ c κs. search rules)
     (λ c κs. search rules)
     (λ c. search rules)
-    (λ c. rw (sym c.before.before.before.hex-digit2.ensures, sym c.before.before.before.before.before.before.before.before.hex-digit.ensures) (both c.before.before.before.before.before.before.before.put_byte.ensures c.before.before.put-byte2.ensures)))
+    (λ c. rw (sym c.hex_digit-2.ensures, sym c.hex_digit.ensures) (both c.put_byte-at.ensures c.put_byte.ensures)))

@@ -14,4 +14,4 @@ put_hex4_spec =
     (λ c. search rules)
     (λ c κs. search rules)
     (λ c. search rules)
-    (λ c. both c.before.before.before.before.before.before.put-hex2.ensures c.before.before.put-hex22.ensures))
+    (λ c. both c.put_hex2-at.ensures c.put_hex2.ensures))

@@ -11,5 +11,5 @@ put_if_spec =
     (tie.spec
     (λ c κs. search rules)
     (λ c. search rules)
-    (λ c. rw c.before.before.before.before.if1.true c.before.before.put_byte.ensures)
-    (λ c. rw c.if1.false (none _)))
+    (λ c. rw c.if-on.true c.put_byte.ensures)
+    (λ c. rw c.if-on.false (none _)))

@@ -15,9 +15,9 @@ displaced_spec =
     (tie.spec
     (λ c. search rules)
     (λ c. search rules)
-    (λ c. rw c.match.keys1)
-    (λ c. rw c.match.keys2)
-    (λ c. rw c.match.keys3)
-    (λ c. let w = c.before.args.opcode in
+    (λ c. rw c.in-0.is)
+    (λ c. rw c.in-1.is)
+    (λ c. rw c.in-2.is)
+    (λ c. let w = c.args.opcode in
     let e : w / 512 % 2 * 2 + w / 8 % 2 ≡ 3 = omega arith in
     rw e))

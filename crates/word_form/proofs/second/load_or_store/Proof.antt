@@ -16,5 +16,5 @@ load_or_store_spec =
     (tie.spec
     (λ c κs. search rules)
     (λ c κs. search rules)
-    (λ c. let w = c.before.before.args.opcode in c.load.ensures ∙ ap form (within 5 w (ranges w 0) (omega arith)))
-    (λ c. let w = c.before.before.args.opcode in c.store.ensures ∙ ap form (within 6 w (ranges w 0) (omega arith))))
+    (λ c. let w = c.args.opcode in c.load.ensures ∙ ap form (within 5 w (ranges w 0) (omega arith)))
+    (λ c. let w = c.args.opcode in c.store.ensures ∙ ap form (within 6 w (ranges w 0) (omega arith))))

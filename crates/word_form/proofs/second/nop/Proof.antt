@@ -13,5 +13,5 @@ unfolding decode_of nop_to_add_of
 nop_spec =
     tie.close
     (tie.spec
-    (λ c. rw c.match.keys1)
-    (λ c. let w = c.before.args.opcode in ap form (within 1 w (nop_to_add w) (omega arith) ∙ within 0 w (ranges w 0) (omega arith))))
+    (λ c. rw c.in-0.is)
+    (λ c. let w = c.args.opcode in ap form (within 1 w (nop_to_add w) (omega arith) ∙ within 0 w (ranges w 0) (omega arith))))

@@ -17,7 +17,7 @@ nop_to_multiply_spec =
     (λ c κs. search rules)
     (λ c κs. search rules)
     (λ c. c.nop.ensures)
-    (λ c. let w = c.before.args.opcode in ap form (within 2 w (nop_to_add w) (omega arith) ∙ within 0 w (ranges w 0) (omega arith)))
-    (λ c. let w = c.before.args.opcode in ap form (within 3 w (nop_to_add w) (omega arith) ∙ within 0 w (ranges w 0) (omega arith)))
-    (λ c. let w = c.before.before.args.opcode in
+    (λ c. let w = c.args.opcode in ap form (within 2 w (nop_to_add w) (omega arith) ∙ within 0 w (ranges w 0) (omega arith)))
+    (λ c. let w = c.args.opcode in ap form (within 3 w (nop_to_add w) (omega arith) ∙ within 0 w (ranges w 0) (omega arith)))
+    (λ c. let w = c.args.opcode in
     c.multiply.ensures ∙ ap form (within 4 w (nop_to_add w) (omega arith) ∙ within 0 w (ranges w 0) (omega arith))))

@@ -15,10 +15,10 @@ one_register_or_word_spec =
     tie.close
     (tie.spec
     (λ c κs. search rules)
-    (λ c. let w = c.before.args.opcode in
-    let e : 2 ≡ form (word_immediate_of w) = rw c.match.keys1 in
+    (λ c. let w = c.args.opcode in
+    let e : 2 ≡ form (word_immediate_of w) = rw c.in-150.is in
     e ∙ ap form (within 8 w (ranges w 0) (omega arith)))
-    (λ c. let w = c.before.args.opcode in
-    let e : 68 ≡ form (word_immediate_of w) = rw c.match.keys2 in
+    (λ c. let w = c.args.opcode in
+    let e : 68 ≡ form (word_immediate_of w) = rw c.in-151.is in
     e ∙ ap form (within 8 w (ranges w 0) (omega arith)))
-    (λ c. let w = c.before.before.args.opcode in c.one-register.ensures ∙ ap form (within 7 w (ranges w 0) (omega arith))))
+    (λ c. let w = c.args.opcode in c.one_register.ensures ∙ ap form (within 7 w (ranges w 0) (omega arith))))

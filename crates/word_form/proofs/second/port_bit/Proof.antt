@@ -12,9 +12,9 @@ unfolding port_bit_of
 port_bit_spec =
     tie.close
     (tie.spec
-    (λ c. rw c.match.keys1)
-    (λ c. rw c.match.keys2)
-    (λ c. rw c.match.keys3)
-    (λ c. let w = c.before.args.opcode in
+    (λ c. rw c.in-0.is)
+    (λ c. rw c.in-1.is)
+    (λ c. rw c.in-2.is)
+    (λ c. let w = c.args.opcode in
     let e : w / 256 % 4 ≡ 3 = omega arith in
     rw e))

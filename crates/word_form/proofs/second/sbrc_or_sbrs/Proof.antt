@@ -17,8 +17,8 @@ sbrc_or_sbrs_spec =
     (tie.spec
     (λ c. search rules)
     (λ c. search rules)
-    (λ c. bit_form c.before.args.opcode 1 0 c.before.requires (omega arith) c.match.keys1)
-    (λ c. bit_form c.before.args.opcode 1 2 c.before.requires (omega arith) c.match.keys2)
-    (λ c. let w = c.before.args.opcode in
+    (λ c. bit_form c.args.opcode 1 0 c.requires (omega arith) c.in-0.is)
+    (λ c. bit_form c.args.opcode 1 2 c.requires (omega arith) c.in-2.is)
+    (λ c. let w = c.args.opcode in
     let n = w / 512 % 2 * 2 + w / 8 % 2 in
-    ap form (missed (1 * 4 + n) (register_bit w) ((((tt, λ e. omega (arith, e)), λ e. omega (arith, e)), λ e. omega (arith, e)), λ e. omega (arith, e))) ∙ bit_form w 1 n c.before.requires (omega arith) refl))
+    ap form (missed (1 * 4 + n) (register_bit w) ((((tt, λ e. omega (arith, e)), λ e. omega (arith, e)), λ e. omega (arith, e)), λ e. omega (arith, e))) ∙ bit_form w 1 n c.requires (omega arith) refl))

@@ -1,5 +1,6 @@
 -- `store`: each key has the form of its case, and past them the table has none.
 -- Assumes nothing.
+use borrow.Author.Rules.{rules}
 use mathlib.Core.Path.{ap}
 use Prim.Native.Nat.{◌%◌}
 use Rattle.instruction.specs.Decode.{store_of, store}
@@ -13,13 +14,13 @@ unfolding store_of
 store_spec =
     tie.close
     (tie.spec
-    (λ c. rw c.match.keys1)
-    (λ c. rw c.match.keys2)
-    (λ c. rw c.match.keys3)
-    (λ c. rw c.match.keys4)
-    (λ c. rw c.match.keys5)
-    (λ c. rw c.match.keys6)
-    (λ c. rw c.match.keys7)
-    (λ c. rw c.match.keys8)
-    (λ c. rw c.match.keys9)
-    (λ c. let w = c.before.args.opcode in ap form (missed (w % 16) (store w 0) c.match.rest)))
+    (λ c. rw c.in-0.is)
+    (λ c. rw c.in-1.is)
+    (λ c. rw c.in-2.is)
+    (λ c. rw c.in-9.is)
+    (λ c. rw c.in-10.is)
+    (λ c. rw c.in-12.is)
+    (λ c. rw c.in-13.is)
+    (λ c. rw c.in-14.is)
+    (λ c. rw c.in-15.is)
+    (λ c. let w = c.args.opcode in ap form (missed (w % 16) (store w 0) (search rules))))
