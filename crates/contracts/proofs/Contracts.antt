@@ -26,9 +26,9 @@ use Rattle.encode.proofs.encode.Met as encode
 use Rattle.listing.proofs.list.Met as list
 use Rattle.schedule_text.proofs.read.Met as schedule_text_read
 use Rattle.rerunning.proofs.rerun.Met as rerun
-use Rattle.hex.proofs.check.check.Met as hex_check
-use Rattle.hex.proofs.read.Met as hex_read
-use Rattle.hex.proofs.write.Met as hex_write
+use Rattle.intel_hex.proofs.check.check.Met as hex_check
+use Rattle.intel_hex.proofs.read.Met as hex_read
+use Rattle.intel_hex.proofs.write.Met as hex_write
 use Rattle.host.proofs.avr_hex_read.Met as avr_hex_read
 use Rattle.host.proofs.avr_hex_write.Met as avr_hex_write
 use Rattle.forms.proofs.form_of.Met as form_of

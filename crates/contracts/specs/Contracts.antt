@@ -26,9 +26,9 @@ use Rattle.encode.proofs.encode.Statement as encode
 use Rattle.listing.proofs.list.Statement as list
 use Rattle.schedule_text.proofs.read.Statement as schedule_text_read
 use Rattle.rerunning.proofs.rerun.Statement as rerun
-use Rattle.hex.proofs.check.check.Statement as hex_check
-use Rattle.hex.proofs.read.Statement as hex_read
-use Rattle.hex.proofs.write.Statement as hex_write
+use Rattle.intel_hex.proofs.check.check.Statement as hex_check
+use Rattle.intel_hex.proofs.read.Statement as hex_read
+use Rattle.intel_hex.proofs.write.Statement as hex_write
 use Rattle.host.proofs.avr_hex_read.Statement as avr_hex_read
 use Rattle.host.proofs.avr_hex_write.Statement as avr_hex_write
 use Rattle.forms.proofs.form_of.Statement as form_of
@@ -86,9 +86,9 @@ pub record Contracts : Type 2 where
   pub schedule_text_read : {M : Type 1} → schedule_text_read.statement M
   -- crates/rerunning/src/lib.rt
   pub rerun : {M : Type 1} → rerun.statement M
-  -- crates/hex/src/check.rt
+  -- crates/intel_hex/src/check.rt
   pub hex_check : {M : Type 1} → hex_check.statement M
-  -- crates/hex/src/lib.rt
+  -- crates/intel_hex/src/lib.rt
   pub hex_read : {M : Type 1} → hex_read.statement M
   pub hex_write : {M : Type 1} → hex_write.statement M
   -- crates/host/src/hex_files.rt

@@ -1,7 +1,7 @@
 // HEX files from C. A refused call changes no byte of the buffer.
 ghost use Rattle.std.specs.Prelude.{◌≡◌, length};
-ghost use Rattle.hex.specs.Reading.{read_of, program_of};
-ghost use Rattle.hex.specs.Writing.{write_of, buffer_of};
+ghost use Rattle.intel_hex.specs.Reading.{read_of, program_of};
+ghost use Rattle.intel_hex.specs.Writing.{write_of, buffer_of};
 
 // A text into `program`. `line` gets the number of the refused line, 0 where nothing is refused.
 #[unsafe(no_mangle)]
@@ -10,7 +10,7 @@ pub extern "C" fn avr_hex_read(text: &[u8], program: &mut [u8], line: &mut usize
     ensures program_after { program.new ≡ program_of text.now program.old }
     ensures line_after { line.new ≡ (read_of text.now (length program.old)).line }
 {
-    let read = hex::read(text, program);
+    let read = intel_hex::read(text, program);
     *line = read.line;
     read.refusal as u32
 }
@@ -22,7 +22,7 @@ pub extern "C" fn avr_hex_write(program: &[u8], text: &mut [u8], written: &mut u
     ensures text_after { text.new ≡ buffer_of program.now text.old }
     ensures written_after { written.new ≡ (write_of program.now (length text.old)).length }
 {
-    let wrote = hex::write(program, text);
+    let wrote = intel_hex::write(program, text);
     *written = wrote.length;
     wrote.refusal as u32
 }

@@ -26,13 +26,13 @@ use Rattle.comparisons.proofs.Comparisons.{compares_any_width, none_enters_exact
 use Rattle.comparisons.proofs.Branches.{branches_as_asked, branches_behind_a_handler}
 use Rattle.comparisons.proofs.Stamps.{four_bytes, stamps_told}
 use Rattle.table_decode.proofs.Alike.{decodes_alike, ticks_alike, runs_alike}
-use Rattle.hex.proofs.Exactly.{each_number_exactly}
-use Rattle.hex.proofs.GivenBack.{given_back}
-use Rattle.hex.proofs.Unchanged.{refused_read_lem, refused_write}
-use Rattle.hex.proofs.Once.{named_at_most_once}
-use Rattle.hex.proofs.EachByte.{each_byte}
-use Rattle.hex.proofs.Whole.{length_text}
-use Rattle.hex.proofs.Computed.{examples}
+use Rattle.intel_hex.proofs.Exactly.{each_number_exactly}
+use Rattle.intel_hex.proofs.GivenBack.{given_back}
+use Rattle.intel_hex.proofs.Unchanged.{refused_read_lem, refused_write}
+use Rattle.intel_hex.proofs.Once.{named_at_most_once}
+use Rattle.intel_hex.proofs.EachByte.{each_byte}
+use Rattle.intel_hex.proofs.Whole.{length_text}
+use Rattle.intel_hex.proofs.Computed.{examples}
 use Rattle.schedule.proofs.Laws.{schedules_are_ticks, numbers_written, empty_list_is_a_run, same_schedule_under_larger_budget}
 use Rattle.schedule.proofs.InSteps.{runs_in_steps}
 use Rattle.schedule_text.proofs.Laws.{text_listed}

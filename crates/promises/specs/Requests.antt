@@ -21,23 +21,23 @@ use Rattle.listing.specs.Laws.{WordsAreTheProgram, LinesAreDecoded, WholeListing
 use Rattle.comparisons.specs.Comparisons.{ComparesAnyWidth, NoneEntersExactly, ComparesWithHandlers, ComparesWithHandlersAtTheEnd, ComparisonsAreStretches, BranchesAsAsked, BranchesBehindAHandler}
 use Rattle.comparisons.specs.Stamps.{FourBytes, StampsTold}
 use Rattle.table_decode.specs.Alike.{DecodesAlike, TicksAlike, RunsAlike}
-use Rattle.hex.specs.Answers.{EachNumberExactly}
-use Rattle.hex.specs.Promises.{WritingIsGivenBack, RefusedReadChangesNothing, RefusedWriteChangesNothing, NamedAtMostOnce, EachByteOfAFileRead, TextLength}
-use Rattle.hex.specs.Examples.{Examples}
+use Rattle.intel_hex.specs.Answers.{EachNumberExactly}
+use Rattle.intel_hex.specs.Promises.{WritingIsGivenBack, RefusedReadChangesNothing, RefusedWriteChangesNothing, NamedAtMostOnce, EachByteOfAFileRead, TextLength}
+use Rattle.intel_hex.specs.Examples.{Examples}
 use Rattle.promises.specs.Schedules.{SchedulesLeaveNoTrace, StampsByASchedule}
 
 pub record Requests : Type 0 where
   -- ---- W1. HEX files
-  -- crates/hex/specs/Answers.antt: each of 02's numbers 50 to 57 exactly where its condition holds, and at which line
+  -- crates/intel_hex/specs/Answers.antt: each of 02's numbers 50 to 57 exactly where its condition holds, and at which line
   pub hex_numbers : EachNumberExactly
-  -- crates/hex/specs/Promises.antt: what the writer made is given back; refused, nothing changes; no byte is named twice; what each byte then is; how long a text is
+  -- crates/intel_hex/specs/Promises.antt: what the writer made is given back; refused, nothing changes; no byte is named twice; what each byte then is; how long a text is
   pub hex_given_back : WritingIsGivenBack
   pub hex_refused_read : RefusedReadChangesNothing
   pub hex_refused_write : RefusedWriteChangesNothing
   pub hex_named_once : NamedAtMostOnce
   pub hex_each_byte : EachByteOfAFileRead
   pub hex_text_length : TextLength
-  -- crates/hex/specs/Examples.antt: small files
+  -- crates/intel_hex/specs/Examples.antt: small files
   pub hex_examples : Examples
   -- ---- W2. The rule
   -- crates/invariants/specs/Rule.antt: the rule, source or chip: nothing changes it, and ADIW, pointer access and SEI alone ask for it

@@ -11,7 +11,7 @@ use Rattle.basis.proofs.Choice.{either}
 use Rattle.invariants.proofs.Fits.{bytes_set}
 use Rattle.hex_line.specs.Line.{lines_of, record_of, count_of, address_of, data_of}
 use Rattle.hex_line.proofs.RecordBytes.{byte_lt}
-use Rattle.hex.specs.Reading.{read_of, filled, program_of}
+use Rattle.intel_hex.specs.Reading.{read_of, filled, program_of}
 
 some : (n : ℕ) (s : List ℕ) → ((i : ℕ) → get_or s i 0 < 256) → (i : ℕ) → get_or (take n s) i 0 < 256
 some zero s h i = omega arith

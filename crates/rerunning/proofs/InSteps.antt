@@ -19,7 +19,7 @@ use Rattle.run.proofs.Turns.{said_sound}
 use Rattle.schedule.specs.Schedule.{Record, records_of, refusal_of, Scheduled, scheduled, ScheduleIn, schedule_from}
 use Rattle.schedule.specs.Laws.{entered_of}
 use Rattle.schedule.proofs.InSteps.{runs_in_steps}
-use Rattle.hex.specs.Reading as hex
+use Rattle.intel_hex.specs.Reading as hex
 use Rattle.schedule_text.specs.Reading as text
 use Rattle.rerunning.specs.Rerun.{State, many_of, four, fours, state_of, after_of, next_of, ran_of, image_of, told_of}
 use Rattle.rerunning.proofs.Entries.{many_more}

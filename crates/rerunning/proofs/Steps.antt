@@ -8,7 +8,7 @@ use lib.ListN.{length, length-append}
 use borrow.Author.Tests.{eq-eqb}
 use Rattle.schedule.specs.Schedule.{ScheduleIn}
 use Rattle.schedule.specs.Laws.{entered_of}
-use Rattle.hex.specs.Reading as hex
+use Rattle.intel_hex.specs.Reading as hex
 use Rattle.schedule_text.specs.Reading as text
 use Rattle.schedule_text.proofs.Laws.{text_listed}
 use Rattle.rerunning.specs.Rerun.{State, many_of, fours, state_of, image_of, after_of, next_of, gone_on, told_of}

@@ -7,8 +7,8 @@ use native.Mathlib.Omega.{arith}
 use lib.ListN.{take, drop, length}
 use lib.Seq.{take-append_seam}
 use borrow.Author.Tests.{eq-eqb, ne_eqb}
-use Rattle.hex.specs.Reading as hex
-use Rattle.hex.specs.declared.check.Read.{Read}
+use Rattle.intel_hex.specs.Reading as hex
+use Rattle.intel_hex.specs.declared.check.Read.{Read}
 use Rattle.schedule.specs.Schedule.{Record}
 use Rattle.schedule_text.specs.Reading.{Told, read_of, bytes_of}
 use Rattle.schedule_text.specs.declared.Outcome.{Outcome}

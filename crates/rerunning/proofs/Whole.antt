@@ -19,7 +19,7 @@ use Rattle.run.proofs.Turns.{said_sound}
 use Rattle.page.proofs.Laid.{in_front}
 use Rattle.schedule.specs.Schedule.{records_of, refusal_of, scheduled, refusal_in, ScheduleIn, schedule_from}
 use Rattle.schedule.specs.Laws.{entered_of}
-use Rattle.hex.specs.Reading as hex
+use Rattle.intel_hex.specs.Reading as hex
 use Rattle.schedule_text.specs.Reading as text
 use Rattle.schedule_text.proofs.Laws.{text_listed, bytes_length}
 use Rattle.rerunning.specs.Rerun.{State, many_of, four, fours, state_of, next_of, part, after_of, gone_on, ran_of, image_of, told_of, written_of, job_of, rerun_of}

@@ -3,7 +3,7 @@
 use Rattle.std.specs.Prelude.{◌≡◌, List, ◌∷◌, ◌++◌, ℕ, ◌*◌, ◌≤◌, ◌<◌, take, length}
 use Rattle.basis.specs.Bytes.{Bytes}
 use Rattle.page.specs.Page.{Prints}
-use Rattle.hex.specs.Reading as hex
+use Rattle.intel_hex.specs.Reading as hex
 use Rattle.schedule_text.specs.Reading.{read_of, bytes_of}
 use Rattle.rerunning.specs.Rerun.{four, State, many_of, state_of, image_of, after_of, next_of, told_of, rerun_of}
 

@@ -2,7 +2,7 @@
 -- s is the input, n a number, t the text of a HEX file, l the text of a schedule, z the state of a run, b its budget, p a program, r the bytes of a list of records, x what the run gives.
 use Rattle.std.specs.Prelude.{◌||◌, List, [], ◌∷◌, ◌++◌, ℕ, ◌+◌, ◌*◌, ◌-◌, ◌/◌, ◌%◌, eqb, ltb, get_or, take, drop, length, replicate}
 use Rattle.basis.specs.Pick.{pick}
-use Rattle.hex.specs.Reading as hex
+use Rattle.intel_hex.specs.Reading as hex
 use Rattle.schedule.specs.Schedule.{ScheduleIn, schedule_from}
 use Rattle.schedule.specs.Laws.{entered_of}
 use Rattle.schedule_text.specs.Reading.{read_of, bytes_of}

@@ -20,7 +20,7 @@ pub(crate) fn put_told(
     ensures { Puts (page out.old 0) (told_of budget (record { done = done; core = core.now; entered = entered.now; bytes = «data».now }) text.now schedule.now) (page out.new result) }
 {
     let mut program = [0u8; 49152];
-    let read = hex::read(text, &mut program);
+    let read = intel_hex::read(text, &mut program);
     if read.refusal != 0 {
         return put_refusal(out, 2, read.refusal, read.line);
     }

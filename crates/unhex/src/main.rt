@@ -29,7 +29,7 @@ fn convert(text: &mut [u8], image: &mut [u8]) {
         say(b"too long: a file has at most 1,048,576 bytes\n");
         return;
     }
-    let read = hex::read(&text[..size], image);
+    let read = intel_hex::read(&text[..size], image);
     if read.refusal == 0 {
         say(image);
     } else {

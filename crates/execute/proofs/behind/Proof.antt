@@ -12,5 +12,5 @@ behind_spec =
     tie.close
     (tie.spec
     (λ c. search rules)
-    (λ c. rw (eq-eqb _ _ c.if1.true))
-    (λ c. rw (ne_eqb _ _ c.before.if1.false)))
+    (λ c. rw (eq-eqb _ _ c.if-core-eq65535.true))
+    (λ c. rw (ne_eqb _ _ c.if-core-eq65535.false)))

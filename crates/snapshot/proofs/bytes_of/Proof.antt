@@ -10,10 +10,10 @@ use Rattle.snapshot.proofs.Copies.{over, copied, filled}
 use Rattle.snapshot.proofs.bytes_of.Statement.{statement}
 use Rattle.snapshot.proofs.bytes_of.Tie as tie
 
-abbrev invariant_loop : tie.invariant_loop
+abbrev invariant_loop : tie.invariant-loop-i
 invariant_loop core regs out₀ i₀ out i = (i ≤ 32) × (out ≡ over out₀ regs i)
 
-abbrev decreases_loop : tie.decreases_loop
+abbrev decreases_loop : tie.decreases-loop-i
 decreases_loop core regs out₀ i₀ out i = 32 - i
 
 pub bytes_of_spec : {M : Type 1} → statement M
@@ -27,7 +27,7 @@ bytes_of_spec =
     (λ c. search rules)
     (λ c. search rules)
     (λ c. search rules)
-    (λ c. (search rules, copied (replicate 38 0) c.before.before.before.args.core.regs c.before.loop.out c.before.loop.i c.before.loop.invariant.1 (search rules) (search rules)))
+    (λ c. (search rules, copied (replicate 38 0) c.args.core.regs c.loop-i.out c.loop-i.i c.loop-i.invariant.1 (search rules) (search rules)))
     (λ c. search rules)
     (λ c. search rules)
     (λ c. search rules)
@@ -39,8 +39,8 @@ bytes_of_spec =
     (λ c. search rules)
     (λ c κs. search rules)
     (λ c. search rules)
-    (λ c. let k = c.before.before.before.before.before.before.before.before.args.core in
-    let l = c.before.before.before.before.before.before.loop in
-    let e : l.i ≡ 32 = omega (arith, l.invariant.0, c.before.before.before.before.before.loop-test.false) in
+    (λ c. let k = c.args.core in
+    let l = c.loop-i in
+    let e : l.i ≡ 32 = omega (arith, l.invariant.0, c.loop-i-test.false) in
     let last = k.busy * 32 + one k.inhibit * 16 + one k.in_service * 8 + one k.chip * 4 in
     rw (c.last_byte.ensures, l.invariant.1, e) (filled k.regs k.sreg (k.pc / 256) (k.pc % 256) (k.sp / 256) (k.sp % 256) last (search rules))))

@@ -10,10 +10,10 @@ use Rattle.snapshot.proofs.Copies.{over, copied, whole}
 use Rattle.snapshot.proofs.core_of.Statement.{statement}
 use Rattle.snapshot.proofs.core_of.Tie as tie
 
-abbrev invariant_loop : tie.invariant_loop
+abbrev invariant_loop : tie.invariant-loop-i
 invariant_loop bytes regs₀ i₀ regs i = (i ≤ 32) × (regs ≡ over regs₀ bytes i)
 
-abbrev decreases_loop : tie.decreases_loop
+abbrev decreases_loop : tie.decreases-loop-i
 decreases_loop bytes regs₀ i₀ regs i = 32 - i
 
 pub core_of_spec : {M : Type 1} → statement M
@@ -28,7 +28,7 @@ core_of_spec =
     (λ c. search rules)
     (λ c. search rules)
     (λ c. search rules)
-    (λ c. (search rules, copied _ _ _ _ c.before.before.loop.invariant.1 (search rules) (search rules)))
+    (λ c. (search rules, copied _ _ _ _ c.loop-i.invariant.1 (search rules) (search rules)))
     (λ c. search rules)
     (λ c. search rules)
     (λ c. search rules)
@@ -37,6 +37,6 @@ core_of_spec =
     (λ c. search rules)
     (λ c. search rules)
     (λ c κs. search rules)
-    (λ c. let l = c.before.before.before.before.before.before.before.before.before.loop in
-    let e : l.i ≡ 32 = omega (arith, l.invariant.0, c.before.before.before.before.before.before.before.before.loop-test.false) in
-    rw (l.invariant.1, e, whole (replicate 32 0) c.before.before.before.before.before.before.before.before.before.before.before.args.bytes.now 32 (search rules), c.before.before.before.word.ensures, c.word2.ensures)))
+    (λ c. let l = c.loop-i in
+    let e : l.i ≡ 32 = omega (arith, l.invariant.0, c.loop-i-test.false) in
+    rw (l.invariant.1, e, whole (replicate 32 0) c.args.bytes.now 32 (search rules), c.word.ensures, c.word-2.ensures)))

@@ -12,14 +12,14 @@ read_spec =
     tie.close
     (tie.spec
     (λ c κs. search rules)
-    (λ c. rw (ne_eqb _ _ c.before.if1.true) c.refused.ensures)
+    (λ c. rw (ne_eqb _ _ c.if-bytes-ne38.true) c.refused.ensures)
     (λ c. search rules)
     (λ c κs. search rules)
-    (λ c. rw (eq-eqb _ _ c.before.before.before.if1.false, lt-ltb _ _ c.before.if2.true) c.refused2.ensures)
+    (λ c. rw (eq-eqb _ _ c.if-bytes-ne38.false, lt-ltb _ _ c.if-bytes-gt4.true) c.refused-then-bytes-gt4.ensures)
     (λ c. search rules)
     (λ c κs. search rules)
-    (λ c. let last = get_or c.before.before.before.before.before.before.before.args.bytes.now 37 0 in
-    rw (eq-eqb _ _ c.before.before.before.before.before.if1.false, le-ltb _ _ c.before.before.before.if2.false, ne_eqb (last % 4) 0 c.before.if3.true) c.refused3.ensures)
+    (λ c. let last = get_or c.args.bytes.now 37 0 in
+    rw (eq-eqb _ _ c.if-bytes-ne38.false, le-ltb _ _ c.if-bytes-gt4.false, ne_eqb (last % 4) 0 c.if-bytes-ne0.true) c.refused-then-bytes-ne0.ensures)
     (λ c κs. search rules)
-    (λ c. let last = get_or c.before.before.before.before.before.before.before.args.bytes.now 37 0 in
-    rw (eq-eqb _ _ c.before.before.before.before.before.if1.false, le-ltb _ _ c.before.before.before.if2.false, eq-eqb (last % 4) 0 c.before.if3.false, c.core-of.ensures)))
+    (λ c. let last = get_or c.args.bytes.now 37 0 in
+    rw (eq-eqb _ _ c.if-bytes-ne38.false, le-ltb _ _ c.if-bytes-gt4.false, eq-eqb (last % 4) 0 c.if-bytes-ne0.false, c.core_of.ensures)))

@@ -10,11 +10,11 @@ done_by_spec =
     tie.close
     (tie.spec
     (λ c. search rules)
-    (λ c. rw c.enum_told.given.1)
+    (λ c. rw c.in-SLEEP.is)
     (λ c. search rules)
-    (λ c. rw c.enum-told2.given.1)
+    (λ c. rw c.in-WDR.is)
     (λ c. search rules)
-    (λ c. rw c.enum-told3.given.1)
+    (λ c. rw c.in-UNDEF.is)
     (λ c. search rules)
-    (λ c. rw c.enum-told4.given.1)
-    (λ c. rest_ran c.before.before.before.before.args.op c.before.before.before.match.keys2 c.before.before.match2.keys2 c.before.match3.keys2 c.match4.keys2))
+    (λ c. rw c.in-BREAK.is)
+    (λ c. rest_ran c.args.op (search rules) (search rules) (search rules) (search rules)))

@@ -11,4 +11,4 @@ execute_spec =
     (λ c κs. search rules)
     (λ c κs. search rules)
     (λ c. search rules)
-    (λ c. rw c.before.before.before.before.behind.ensures at c.before.before.effect.ensures))
+    (λ c. rw c.behind.ensures at c.effect.ensures))

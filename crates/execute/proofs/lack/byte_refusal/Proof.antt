@@ -10,4 +10,4 @@ byte_refusal_spec =
     (tie.spec
     (λ c κs. search rules)
     (λ c κs. search rules)
-    (λ c. rw (c.lowest.ensures, c.before.has.ensures)))
+    (λ c. rw (c.lowest.ensures, c.has.ensures)))

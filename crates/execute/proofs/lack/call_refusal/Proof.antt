@@ -11,4 +11,4 @@ call_refusal_spec =
     (λ c. search rules)
     (λ c κs. search rules)
     (λ c κs. search rules)
-    (λ c. rw (c.lowest.ensures, c.before.has.ensures)))
+    (λ c. rw (c.lowest.ensures, c.has.ensures)))

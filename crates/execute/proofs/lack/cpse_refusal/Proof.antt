@@ -11,4 +11,4 @@ cpse_refusal_spec =
     (λ c κs. search rules)
     (λ c κs. search rules)
     (λ c κs. search rules)
-    (λ c. rw (c.skip-refusal.ensures, c.before.get-register2.ensures, c.before.before.get_register.ensures)))
+    (λ c. rw (c.skip_refusal.ensures, c.get_register-2.ensures, c.get_register.ensures)))

@@ -8,8 +8,8 @@ pub lowest_spec : {M : Type 1} → statement M
 lowest_spec =
     tie.close
     (tie.spec
-    (λ c. let a = c.before.args in rw (not-true a.program c.if1.true))
-    (λ c. let a = c.before.before.args in rw (not-false a.program c.before.if1.false, not-true a.room c.if2.true))
-    (λ c. let a = c.before.before.before.args in rw (not-false a.program c.before.before.if1.false, not-false a.room c.before.if2.false, not-true a.stack c.if3.true))
-    (λ c. let a = c.before.before.before.before.args in rw (not-false a.program c.before.before.before.if1.false, not-false a.room c.before.before.if2.false, not-false a.stack c.before.if3.false, c.if4.true))
-    (λ c. let a = c.before.before.before.before.args in rw (not-false a.program c.before.before.before.if1.false, not-false a.room c.before.before.if2.false, not-false a.stack c.before.if3.false, c.if4.false)))
+    (λ c. let a = c.args in rw (c.if-not-program.true))
+    (λ c. let a = c.args in rw (c.if-not-program.false, c.if-not-room.true))
+    (λ c. let a = c.args in rw (c.if-not-program.false, c.if-not-room.false, c.if-not-stack.true))
+    (λ c. let a = c.args in rw (c.if-not-program.false, c.if-not-room.false, c.if-not-stack.false, c.if-bytes.true))
+    (λ c. let a = c.args in rw (c.if-not-program.false, c.if-not-room.false, c.if-not-stack.false, c.if-bytes.false)))

@@ -12,4 +12,4 @@ lpm_refusal_spec =
     (λ c. search rules)
     (λ c κs. search rules)
     (λ c κs. search rules)
-    (λ c. rw (c.lowest.ensures, c.before.has.ensures, c.before.before.get_register_word.ensures)))
+    (λ c. rw (c.lowest.ensures, c.has.ensures, c.get_register_word-address.ensures)))

@@ -13,4 +13,4 @@ pointer_refusal_spec =
     (λ c. search rules)
     (λ c κs. search rules)
     (λ c κs. search rules)
-    (λ c. rw (c.lowest.ensures, c.before.in-data-space.ensures, c.before.before.pointed.ensures)))
+    (λ c. rw (c.lowest.ensures, c.in_data_space.ensures, c.pointed.ensures)))

@@ -12,4 +12,4 @@ pop_refusal_spec =
     (λ c. search rules)
     (λ c κs. search rules)
     (λ c κs. search rules)
-    (λ c. rw (c.lowest.ensures, c.before.has.ensures)))
+    (λ c. rw (c.lowest.ensures, c.has.ensures)))

@@ -12,4 +12,4 @@ sbix_refusal_spec =
     (λ c κs. search rules)
     (λ c κs. search rules)
     (λ c κs. search rules)
-    (λ c. rw (c.skip-refusal.ensures, c.before.bit.ensures, c.before.before.read.ensures, c.before.before.before.has.ensures)))
+    (λ c. rw (c.skip_refusal.ensures, c.bit-bitval.ensures, c.read.ensures, c.has-there.ensures)))

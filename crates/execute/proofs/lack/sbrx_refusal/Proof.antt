@@ -11,4 +11,4 @@ sbrx_refusal_spec =
     (λ c κs. search rules)
     (λ c κs. search rules)
     (λ c κs. search rules)
-    (λ c. rw (c.skip-refusal.ensures, c.before.bit.ensures, c.before.before.get_register.ensures)))
+    (λ c. rw (c.skip_refusal.ensures, c.bit-bitval.ensures, c.get_register.ensures)))

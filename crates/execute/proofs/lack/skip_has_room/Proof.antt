@@ -12,9 +12,9 @@ pub skip_has_room_spec : {M : Type 1} → statement M
 skip_has_room_spec =
     tie.close
     (tie.spec
-    (λ c. let a = c.before.before.before.args in
+    (λ c. let a = c.args in
     let two = twoAt decode_of a.core a.program.now in
-    sym (lt-ltb (a.core.pc + one two) 65535 (omega (arith, one_le two, c.if1.true))))
+    sym (lt-ltb (a.core.pc + one two) 65535 (omega (arith, one_le two, c.if-core-lt65534.true))))
     (λ c. search rules)
     (λ c κs. search rules)
     (λ c. search rules)
@@ -24,5 +24,5 @@ skip_has_room_spec =
     (λ c κs. search rules)
     (λ c. search rules)
     (λ c. search rules)
-    (λ c. omega (arith, one_le c.before.two_words.result))
-    (λ c. rw (c.before.two_words.ensures, c.before.before.decode.ensures, c.before.before.before.get-progmem2.ensures, c.before.before.before.before.before.get_progmem.ensures)))
+    (λ c. omega (arith, one_le c.two_words-two.result))
+    (λ c. rw (c.two_words-two.ensures, c.decode.ensures, c.get_progmem-prefetch.ensures, c.get_progmem-opcode.ensures)))

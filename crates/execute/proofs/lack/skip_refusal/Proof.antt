@@ -13,5 +13,5 @@ skip_refusal_spec =
     (λ c κs. search rules)
     (λ c κs. search rules)
     (λ c κs. search rules)
-    (λ c. rw (c.before.before.before.before.if1.true, c.lowest.ensures, c.before.Has-word.ensures, c.before.before.before.skip-has-room.ensures))
+    (λ c. rw (c.if-taken.true, c.lowest.ensures, c.has_word.ensures, c.skip_has_room-room.ensures))
     (λ c. cc))

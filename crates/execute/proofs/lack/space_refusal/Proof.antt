@@ -10,4 +10,4 @@ space_refusal_spec =
     (tie.spec
     (λ c κs. search rules)
     (λ c κs. search rules)
-    (λ c. rw (c.lowest.ensures, c.before.in-data-space.ensures)))
+    (λ c. rw (c.lowest.ensures, c.in_data_space.ensures)))

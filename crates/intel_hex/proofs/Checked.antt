@@ -1,0 +1,104 @@
+-- A text checked line by line: as the code's loop goes, and what holds of a text that is not refused.
+-- Assumes nothing.
+use mathlib.Core.Path.{◌≡◌, refl}
+use mathlib.Core.Bool.{Bool, true, false}
+use mathlib.Core.Logic.{◌⊎◌, inl, inr}
+use mathlib.Core.List.{List, [], ◌∷◌}
+use Prim.Native.Nat.{ℕ, ◌+◌, ◌*◌, ◌-◌, ◌≤◌, ◌<◌}
+use native.Mathlib.Omega.{arith}
+use lib.Dec.{eqb}
+use lib.ListN.{length, drop, take, length-drop}
+use lib.Seq.{take_all, length-take-le}
+use borrow.Author.Tests.{ne_eqb, eqb-true, eqb-false}
+use Rattle.hex_line.specs.Line.{lines_of, type_of, is_end, end_of, fault_of}
+use Rattle.hex_line.specs.Way.{end_length, stop_of, line_at, byte_of, Fits}
+use Rattle.hex_line.proofs.Found.{Found, found, no_lines}
+use Rattle.hex_line.proofs.RecordBytes.{count_is, count_of_part}
+use Rattle.hex_line.proofs.Judged.{never, fits}
+use Rattle.intel_hex.specs.Reading.{answer, behind_end, checked}
+
+-- ---- one line more
+module _ (size n end : ℕ) (l : List ℕ) (ls : List (List ℕ)) where
+  pub faulty : (fault_of size end l ≡ 0 → ⊥) → checked size n end (l ∷ ls) ≡ answer (fault_of size end l) n
+  unfolding checked
+  faulty h = rw (ne_eqb (fault_of size end l) 0 h)
+
+  pub last : fault_of size end l ≡ 0 → type_of l ≡ 1 → checked size n end (l ∷ ls) ≡ behind_end (n + 1) ls
+  unfolding checked
+  last h k = rw (h, k)
+
+  pub onwards : fault_of size end l ≡ 0 → (type_of l ≡ 1 → ⊥) → checked size n end (l ∷ ls) ≡ checked size (n + 1) (end_of l) ls
+  unfolding checked
+  onwards h k = rw (h, ne_eqb (type_of l) 1 k)
+
+pub missing : (size n end : ℕ) (t : List ℕ) (at : ℕ) → length t ≤ at → checked size n end (lines_of (drop at t)) ≡ answer 56 n
+unfolding checked
+missing size n end t at h = rw (no_lines t at h)
+
+pub more : (n : ℕ) (t : List ℕ) (at : ℕ) → at < length t → behind_end n (lines_of (drop at t)) ≡ answer 56 n
+more n t at h = rw (found t at (line_at t at) h refl).lines
+
+pub no_more : (n : ℕ) (t : List ℕ) (at : ℕ) → length t ≤ at → behind_end n (lines_of (drop at t)) ≡ answer 0 0
+no_more n t at h = rw (no_lines t at h)
+
+-- ---- lines that are not refused
+nothing_behind : (n : ℕ) (ls : List (List ℕ)) → (behind_end n ls).refusal ≡ 0 → ls ≡ []
+nothing_behind n [] h = refl
+nothing_behind n (l ∷ ls) h = never 55 h
+
+-- behind a line without a fault: it is the end record and the last, or the rest is not refused
+abbrev pub Then : ℕ → ℕ → List ℕ → List (List ℕ) → Type 0
+Then size n l ls = ((is_end l ≡ true) × (ls ≡ [])) ⊎ ((is_end l ≡ false) × ((checked size (n + 1) (end_of l) ls).refusal ≡ 0))
+
+pub record Passed (size n end : ℕ) (l : List ℕ) (ls : List (List ℕ)) : Type 0 where
+  pub right : fault_of size end l ≡ 0
+  pub rest : Then size n l ls
+
+passed_by : (size n end : ℕ) (l : List ℕ) (ls : List (List ℕ)) (a b : Bool) → eqb (fault_of size end l) 0 ≡ a → is_end l ≡ b
+    → (checked size n end (l ∷ ls)).refusal ≡ 0 → Passed size n end l ls
+unfolding checked
+passed_by size n end l ls true true e f h = record { right = eqb-true _ 0 e; rest = inl (f, nothing_behind (n + 1) ls (rw (e, f) at h)) }
+passed_by size n end l ls true false e f h = record { right = eqb-true _ 0 e; rest = inr (f, rw (e, f) at h) }
+passed_by size n end l ls false b e f h = absurd (eqb-false (fault_of size end l) 0 e (rw e at h))
+
+pub passed : (size n end : ℕ) (l : List ℕ) (ls : List (List ℕ)) → (checked size n end (l ∷ ls)).refusal ≡ 0 → Passed size n end l ls
+passed size n end l ls h = passed_by size n end l ls (eqb (fault_of size end l) 0) (is_end l) refl refl h
+
+-- ---- so every line of a text that is not refused fits
+pub data AllFit (size : ℕ) : List (List ℕ) → Type 0 where
+  no_line : AllFit size []
+  line : {l : List ℕ} {ls : List (List ℕ)} → Fits size l → AllFit size ls → AllFit size (l ∷ ls)
+
+pub all_fit : (size : ℕ) (ls : List (List ℕ)) (n end : ℕ) → (checked size n end ls).refusal ≡ 0 → AllFit size ls
+all_fit size [] n end h = no_line
+all_fit size (l ∷ ls) n end h = let p = passed size n end l ls h in line (fits size end l p.right) (go (all_fit size ls) p.rest)
+  where
+    go : ((n end : ℕ) → (checked size n end ls).refusal ≡ 0 → AllFit size ls) → Then size n l ls → AllFit size ls
+    go later (inl (e, k)) = rw k no_line
+    go later (inr (e, k)) = later (n + 1) (end_of l) k
+
+pub first_fits : {size : ℕ} {l : List ℕ} {ls : List (List ℕ)} → AllFit size (l ∷ ls) → Fits size l
+first_fits (line f r) = f
+
+pub rest_fits : {size : ℕ} {l : List ℕ} {ls : List (List ℕ)} → AllFit size (l ∷ ls) → AllFit size ls
+rest_fits (line f r) = r
+
+-- a line that fits ends where its count, n, says
+pub by_count : {size : ℕ} (t : List ℕ) (at n : ℕ) → at < length t → AllFit size (lines_of (drop at t)) → n ≡ byte_of (take (length t - at) (drop at t)) 0
+    → Found t at (at + n * 2 + 11) (at + n * 2 + 11 + end_length (drop (at + n * 2 + 11) t))
+by_count t at n h fit e =
+    let f = found t at (line_at t at) h refl in
+    let u = drop at t in
+    let stop = stop_of t at in
+    let d : length u ≡ length t - at = length-drop at t in
+    let a = f.starts in
+    let b = f.stops in
+    let c = f.fits in
+    let m : length (take (stop - at) u) ≡ stop - at = length-take-le (stop - at) u (omega arith) in
+    let line = first_fits (rw f.lines at fit) in
+    let long = line.long in
+    let count = count_is (take (stop - at) u) line.digits in
+    let first : byte_of (take (stop - at) u) 0 ≡ byte_of u 0 = count_of_part (stop - at) u (omega arith) (omega arith) in
+    let whole : n ≡ byte_of u 0 = rw (take_all (length t - at) u (omega arith)) at e in
+    let k : stop ≡ at + n * 2 + 11 = omega arith in
+    rw (← k) f
