@@ -14,12 +14,12 @@ use Rattle.basis.proofs.Choice.{clash, either}
 use Rattle.instruction.specs.Decode.{decode_of}
 use Rattle.memory.specs.Memory.{has_word_of}
 use Rattle.cores.specs.State.{flag, Sound}
-use Rattle.cores.specs.Flow.{opAt}
+use Rattle.cores.specs.Flow.{op_at}
 use Rattle.tick.specs.Tick.{due}
 use Rattle.tick.specs.declared.Offer.{Offer}
 use Rattle.tick.specs.declared.Offer.TheVariants.{Nothing}
 use Rattle.interrupts.specs.RegisterOnly.{register_only, kind_of}
-use Rattle.interrupts.specs.Handlers.{handlerTicks}
+use Rattle.interrupts.specs.Handlers.{handler_ticks}
 use Rattle.interrupts.specs.Interrupts.{State, Offers, no_offers, Kept, kept, pc, sp, after, enters, returns, NoTrace}
 use Rattle.interrupts.proofs.Logic.{first_unique}
 use Rattle.interrupts.proofs.Steps.{none_due, inhibited_due, serving_due, calm_due}
@@ -104,7 +104,7 @@ module _ (p : List ℕ) (s : State) (n : ℕ) (d r : ℕ → ℕ) (v : Offers) (
           regs_kept = ap (λ (x : Kept). x.regs) plain_kept ∙ x.regs_kept;
           sp_kept = t.same_sp ∙ ap (λ (i : ℕ). sp (after p s no_offers i)) short_n ∙ x.sp_kept;
         };
-        ticks = t.ticks ∙ ap (λ (i : ℕ). i + handlerTicks (enters p s v) (returns p s v) long) short_n;
+        ticks = t.ticks ∙ ap (λ (i : ℕ). i + handler_ticks (enters p s v) (returns p s v) long) short_n;
       }
 
 pub compares_with_handlers : ComparesWithHandlers
@@ -123,9 +123,9 @@ comparisons_are_stretches p start n d r c =
     record {
       ends = c.ends;
       there = λ y a b. let e : start + (y - start) ≡ y = omega arith in subst (λ i. has_word_of p i ≡ true) e (c.there (y - start) (omega arith));
-      list = λ y a b. let e : start + (y - start) ≡ y = omega arith in subst (λ i. kind_of (opAt decode_of p i) ≡ register_only) e (listed (y - start) (omega arith));
+      list = λ y a b. let e : start + (y - start) ≡ y = omega arith in subst (λ i. kind_of (op_at decode_of p i) ≡ register_only) e (listed (y - start) (omega arith));
     }
   where
-    listed : (i : ℕ) → i < n → kind_of (opAt decode_of p (start + i)) ≡ register_only
+    listed : (i : ℕ) → i < n → kind_of (op_at decode_of p (start + i)) ≡ register_only
     listed zero h = let e : start + 0 ≡ start = omega arith in rw (e, c.lowest)
     listed (suc i) h = rw (c.following (suc i) (omega arith) h)

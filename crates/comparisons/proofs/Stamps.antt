@@ -16,7 +16,7 @@ use Rattle.instruction.specs.declared.Instruction.TheVariants.{CPC}
 use Rattle.alu.specs.Alu.{minus_of}
 use Rattle.memory.specs.Memory.{program_word_of, has_word_of}
 use Rattle.cores.specs.State.{fresh_of, with_reg, with_pc, with_sp, with_busy, with_inhibit, with_service, with_chip, cznvsh, cznvs, znvs, Sound}
-use Rattle.cores.specs.Flow.{opAt, brbx_of}
+use Rattle.cores.specs.Flow.{op_at, brbx_of}
 use Rattle.cores.specs.Transfer.{reach_of, data_of, set_data_of}
 use Rattle.tick.specs.Tick.{stepped, enters_or_steps, ticked}
 use Rattle.interrupts.specs.Handlers.{iterated}
@@ -39,7 +39,7 @@ comparison q =
       ends = omega arith;
       there = below_4 (λ i. has_word_of (program q) (0 + i) ≡ true) refl refl refl refl;
       lowest = refl;
-      following = λ i g h. below_4 (λ i. 1 ≤ i → opAt decode_of (program q) (0 + i) ≡ CPC (16 + i) (20 + i)) (λ g. absurd (omega arith)) (λ g. refl) (λ g. refl) (λ g. refl) i h g;
+      following = λ i g h. below_4 (λ i. 1 ≤ i → op_at decode_of (program q) (0 + i) ≡ CPC (16 + i) (20 + i)) (λ g. absurd (omega arith)) (λ g. refl) (λ g. refl) (λ g. refl) i h g;
     }
 
 branch : (q : Question) → Branch (program q) 4 q 1
@@ -113,20 +113,20 @@ asked P t signed_less = both_right (P equal) (P signed_less) (both_right (P less
 
 module _ (a b : ℕ) (tells : Question → Bool) where
   -- PC after so many ticks, under these offers
-  abbrev at-pc : Bool → Question → Offers → ℕ → ℕ
-  at-pc chip q v j = pc (after (program q) (start chip a b) v j)
+  abbrev at_pc : Bool → Question → Offers → ℕ → ℕ
+  at_pc chip q v j = pc (after (program q) (start chip a b) v j)
 
   abbrev goes : Bool → Question → Bool
-  goes chip q = eqb (at-pc chip q no_offers 5) (pick (tells q) 6 5)
+  goes chip q = eqb (at_pc chip q no_offers 5) (pick (tells q) 6 5)
 
-  abbrev goesFrom : Bool → Question → ℕ → Bool
-  goesFrom chip q place = eqb (at-pc chip q (interrupt_at place) 23) (pick (tells q) 6 5)
+  abbrev goes_from : Bool → Question → ℕ → Bool
+  goes_from chip q place = eqb (at_pc chip q (interrupt_at place) 23) (pick (tells q) 6 5)
 
-  told : ((chip : Bool) → T (asks (goes chip))) → ((chip : Bool) → T (asks (λ q. every 5 (goesFrom chip q)))) → Told a b tells
+  told : ((chip : Bool) → T (asks (goes chip))) → ((chip : Bool) → T (asks (λ q. every 5 (goes_from chip q)))) → Told a b tells
   told plain across =
       record {
         plain = λ chip q. eqb→eq _ _ (asked (goes chip) (plain chip) q);
-        across = λ chip q place h. eqb→eq _ _ (at (goesFrom chip q) 5 (asked (λ q. every 5 (goesFrom chip q)) (across chip) q) place h);
+        across = λ chip q place h. eqb→eq _ _ (at (goes_from chip q) 5 (asked (λ q. every 5 (goes_from chip q)) (across chip) q) place h);
       }
 
 pub stamps_told : StampsTold

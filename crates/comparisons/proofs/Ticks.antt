@@ -25,7 +25,7 @@ use Rattle.interrupts.specs.Interrupts.{State, Offers, tick_at, next, after, num
 use Rattle.interrupts.proofs.Steps.{Met, step_tick}
 use Rattle.comparisons.specs.Comparisons.{held, Question, less, equal, signed_less, flag_of, answer, Comparison, Ticked}
 use Rattle.comparisons.proofs.Flags.{flag_c, flag_z, flag_s, flag_t, flag_i}
-use Rattle.comparisons.proofs.Widening.{c_on, z_on, s-on, top_lt}
+use Rattle.comparisons.proofs.Widening.{c_on, z_on, s_on, top_lt}
 
 -- CP is CPC with C clear and Z set: core a, with registers x and y compared
 abbrev compares : Core → ℕ → ℕ → Bool → Bool → Core
@@ -89,7 +89,7 @@ module _ (p : List ℕ) (s : State) (n : ℕ) (d r : ℕ → ℕ) (sound : Sound
     flags_on signed_less =
         let top : suc j - 1 ≡ j = omega arith in
         flag_s a.core.sreg _ _ _ _ _ x.sreg_lt
-        ∙ rw (x.regs, top) (s-on j (reg k (d j)) (reg k (r j)) (held k d j) (held k r j) (sound.reg_lt (d j)) (sound.reg_lt (r j)) (held_lt d j) (held_lt r j))
+        ∙ rw (x.regs, top) (s_on j (reg k (d j)) (reg k (r j)) (held k d j) (held k r j) (sound.reg_lt (d j)) (sound.reg_lt (r j)) (held_lt d j) (held_lt r j))
 
     -- the tick at instruction j, with nothing due
     module _ (o : Offer) (h : j < n) (undue : due a.core o ≡ Nothing) where

@@ -113,12 +113,12 @@ module _ (n a b A B : ℕ) (ha : a < 256) (hb : b < 256) (hA : A < 256 ^ n) (hB 
   pub z_on : eqb A B && eqb ((a + 512 - (b + one (ltb A B))) % 256) 0 ≡ eqb (A + a * w) (B + b * w)
   z_on = z_of a b w A B (a * w) (b * w) hA hB (scaled w a b) same_scaled (scaled w b a) ha hb (eqb A B) refl
 
-  pub s-on :
+  pub s_on :
       let x = minus_of a b (ltb A B) in
       let W = 256 ^ suc n in
       not (beq (negative x.value) x.overflow) ≡ lt_z (pick (bit a 7) (sub_ℕ (A + a * w) W) (pos (A + a * w))) (pick (bit b 7) (sub_ℕ (B + b * w) W) (pos (B + b * w)))
   unfolding minus_of bit
-  s-on =
+  s_on =
       rw (bit7 a ha, bit7 b hb)
       (s_of a b w A B (a * w) (b * w) hA hB (scaled w a b) same_scaled (scaled w b a) ha hb (256 ^ suc n) (top_lt n a A ha hA) (top_lt n b B hb hB)
       (ltb A B) refl (leb 128 a) (leb 128 b) (leb 128 ((a + 512 - (b + one (ltb A B))) % 256)) refl refl refl)

@@ -15,9 +15,9 @@ use Rattle.alu.specs.Alu.{signed_of}
 use Rattle.memory.specs.Memory.{has_word_of}
 use Rattle.cores.specs.declared.Core.{Core}
 use Rattle.cores.specs.State.{reg, flag, Sound}
-use Rattle.cores.specs.Flow.{opAt}
+use Rattle.cores.specs.Flow.{op_at}
 use Rattle.tick.specs.declared.Offer.TheVariants.{Nothing}
-use Rattle.interrupts.specs.Handlers.{First, handlerTicks}
+use Rattle.interrupts.specs.Handlers.{First, handler_ticks}
 use Rattle.interrupts.specs.Interrupts.{State, Offers, Stretch, kept, pc, sp, after, number_at, enters, returns, Ended, Handled, Assumed, AssumedTo}
 
 -- ---- numbers of n bytes
@@ -52,8 +52,8 @@ module _ (n : ℕ) (d r : ℕ → ℕ) where
     pub some : 1 ≤ n
     pub ends : start + n ≤ 65535
     pub there : (i : ℕ) → i < n → has_word_of p (start + i) ≡ true
-    pub lowest : opAt decode_of p start ≡ CP (d 0) (r 0)
-    pub following : (i : ℕ) → 1 ≤ i → i < n → opAt decode_of p (start + i) ≡ CPC (d i) (r i)
+    pub lowest : op_at decode_of p start ≡ CP (d 0) (r 0)
+    pub following : (i : ℕ) → 1 ≤ i → i < n → op_at decode_of p (start + i) ≡ CPC (d i) (r i)
 
   -- ---- what they make of core k: core j
   pub record Compared (k j : Core) : Type 0 where
@@ -84,7 +84,7 @@ module _ (p : List ℕ) (s : State) (n : ℕ) (d r : ℕ → ℕ) (v : Offers) w
   pub record WithHandlers (long : ℕ) : Type 0 where
     pub first : First (Ended p s n v) long
     pub compared : Compared n d r s.core (after p s v long).core
-    pub ticks : long ≡ n + handlerTicks (enters p s v) (returns p s v) long
+    pub ticks : long ≡ n + handler_ticks (enters p s v) (returns p s v) long
 
 -- ---- W9, for every program, core and data, width, registers and offers, under either rule
 -- "starting not busy, no interrupt entered"
@@ -128,7 +128,7 @@ NoneEntersExactly =
 pub record Branch (p : List ℕ) (at : ℕ) (q : Question) (offset : ℕ) : Type 0 where
   pub below : at < 65535
   pub there : has_word_of p at ≡ true
-  pub branch : opAt decode_of p at ≡ BRBS (flag_of q) offset
+  pub branch : op_at decode_of p at ≡ BRBS (flag_of q) offset
 
 -- where it goes from there: "relative jumps wrap at 65,536", and the offset is a byte in two's complement
 abbrev pub target : ℕ → ℕ → ℕ

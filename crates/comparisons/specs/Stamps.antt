@@ -63,9 +63,9 @@ pub record FourBytes : Type 0 where
 
 -- ---- where the branch goes
 abbrev pub says : Bool → Bool → Bool → Question → Bool
-says isLess isEqual isSignedLess less = isLess
-says isLess isEqual isSignedLess equal = isEqual
-says isLess isEqual isSignedLess signed_less = isSignedLess
+says is_less is_equal is_signed_less less = is_less
+says is_less is_equal is_signed_less equal = is_equal
+says is_less is_equal is_signed_less signed_less = is_signed_less
 
 -- to PC 6 where the answer is yes, and to PC 5 where it is no: with no interrupt, and with one at each of the five places, the last being right before the branch
 pub record Told (a b : ℕ) (tells : Question → Bool) : Type 0 where

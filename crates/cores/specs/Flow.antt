@@ -80,19 +80,19 @@ data_bit_is m A b on = has_of m A && beq (bit (slice_index m A) b) on
 
 module _ (decode : ℕ → ℕ → Instruction) where
   -- the instruction that begins at a PC
-  abbrev pub opAt : List ℕ → ℕ → Instruction
-  opAt p pc = decode (program_word_of p pc) (program_word_of p (pc + 1))
+  abbrev pub op_at : List ℕ → ℕ → Instruction
+  op_at p pc = decode (program_word_of p pc) (program_word_of p (pc + 1))
 
   -- the word to be skipped begins an instruction of two words
-  abbrev pub twoAt : Core → List ℕ → Bool
-  twoAt k p = two_words (opAt p k.pc)
+  abbrev pub two_at : Core → List ℕ → Bool
+  two_at k p = two_words (op_at p k.pc)
 
-  abbrev pub cpseOf : Core → ℕ → ℕ → List ℕ → Core
-  cpseOf k d r p = skipped k (reg k d == reg k r) (twoAt k p)
+  abbrev pub cpse_of : Core → ℕ → ℕ → List ℕ → Core
+  cpse_of k d r p = skipped k (reg k d == reg k r) (two_at k p)
 
   -- "CBI, SBI, SBIC and SBIS name data bytes 0 to 31."
-  abbrev pub sbixOf : Core → ℕ → ℕ → Bool → List ℕ → List ℕ → Core
-  sbixOf k A b on p m = skipped k (data_bit_is m A b on) (twoAt k p)
+  abbrev pub sbix_of : Core → ℕ → ℕ → Bool → List ℕ → List ℕ → Core
+  sbix_of k A b on p m = skipped k (data_bit_is m A b on) (two_at k p)
 
-  abbrev pub sbrxOf : Core → ℕ → ℕ → Bool → List ℕ → Core
-  sbrxOf k r b on p = skipped k (beq (bit (reg k r) b) on) (twoAt k p)
+  abbrev pub sbrx_of : Core → ℕ → ℕ → Bool → List ℕ → Core
+  sbrx_of k r b on p = skipped k (beq (bit (reg k r) b) on) (two_at k p)

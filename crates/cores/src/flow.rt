@@ -10,8 +10,8 @@ ghost use Rattle.cores.specs.Flow.{
   cp_of,
   cpc_of,
   skipped,
-  twoAt,
-  cpseOf,
+  two_at,
+  cpse_of,
   icall_of,
   jumped,
   over_second,
@@ -21,8 +21,8 @@ ghost use Rattle.cores.specs.Flow.{
   ret_of,
   reti_of,
   rjmp_of,
-  sbixOf,
-  sbrxOf,
+  sbix_of,
+  sbrx_of,
 };
 
 use crate::Core;
@@ -102,7 +102,7 @@ impl Core {
 
     // Over the instruction at PC, of one word or of two.
     fn skip(mut self, taken: bool, program: &[u8]) -> Core
-        ensures { result ≡ skipped self taken (twoAt decode_of self program.now) }
+        ensures { result ≡ skipped self taken (two_at decode_of self program.now) }
     {
         if taken {
             let opcode = memory::get_progmem(program, self.pc as u32);
@@ -115,7 +115,7 @@ impl Core {
     }
 
     pub fn cpse(self, d: u8, r: u8, program: &[u8]) -> Core
-        ensures { result ≡ cpseOf decode_of self d r program.now }
+        ensures { result ≡ cpse_of decode_of self d r program.now }
     {
         let Rd = self.get_register(d);
         let Rr = self.get_register(r);
@@ -188,7 +188,7 @@ impl Core {
 
     // A byte that isn't in data counts as not so.
     pub fn sbix(self, A: u8, b: u8, set: bool, program: &[u8], data: &[u8]) -> Core
-        ensures { result ≡ sbixOf decode_of self A b set program.now «data».now }
+        ensures { result ≡ sbix_of decode_of self A b set program.now «data».now }
     {
         let there = memory::has(data, A as usize);
         let bitval = basis::bit(memory::read(data, A as usize), b);
@@ -196,7 +196,7 @@ impl Core {
     }
 
     pub fn sbrx(self, r: u8, b: u8, set: bool, program: &[u8]) -> Core
-        ensures { result ≡ sbrxOf decode_of self r b set program.now }
+        ensures { result ≡ sbrx_of decode_of self r b set program.now }
     {
         let bitval = basis::bit(self.get_register(r), b);
         self.skip(bitval == set, program)

@@ -11,7 +11,7 @@ use Rattle.forms.specs.Forms.{form, form_of}
 use Rattle.forms.proofs.Alone.{form_alone}
 use Rattle.memory.specs.Memory.{program_word_of}
 use Rattle.cores.specs.State.{with_pc, with_sp, with_busy, with_inhibit, with_service, with_chip, with_regs, fresh_of}
-use Rattle.cores.specs.Flow.{brbx_of, skipped, twoAt}
+use Rattle.cores.specs.Flow.{brbx_of, skipped, two_at}
 use Rattle.effects.specs.Parts.{stood, cored}
 
 -- the second word changes nothing of how many words an instruction has
@@ -41,6 +41,6 @@ module _ (rs : List ℕ) (pc sp s : ℕ) (i v chip : Bool) where
   -- by the word at PC
   pub skips : pc < 65536 → (p : List ℕ) (t : Bool)
       → let n = pick t (1 + one (two_words (decode_of (program_word_of p pc) 0))) 0 in
-      cored rs (stood (up pc n) sp s n i v) chip ≡ skipped (cored rs (stood pc sp s 0 i v) chip) t (twoAt decode_of (cored rs (stood pc sp s 0 i v) chip) p)
+      cored rs (stood (up pc n) sp s n i v) chip ≡ skipped (cored rs (stood pc sp s 0 i v) chip) t (two_at decode_of (cored rs (stood pc sp s 0 i v) chip) p)
   unfolding with_pc with_sp with_busy with_inhibit with_service with_chip
   skips h p t = rw (two_alone (program_word_of p pc) (program_word_of p (pc + 1))) (over h t (two_words (decode_of (program_word_of p pc) 0)))

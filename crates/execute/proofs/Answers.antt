@@ -30,13 +30,13 @@ found Watchdog = refl
 found Undefined = refl
 found Break = refl
 
-abbrev pub sameDone : Done → Done → Bool
-sameDone d e = eqb (place d) (place e)
+abbrev pub same_done : Done → Done → Bool
+same_done d e = eqb (place d) (place e)
 
-pub same-done : (d e : Done) → T (sameDone d e) → d ≡ e
+pub same-done : (d e : Done) → T (same_done d e) → d ≡ e
 same-done d e t = sym (found d) ∙ ap at_place (eqb→eq (place d) (place e) t) ∙ found e
 
 -- ---- computed once for each instruction
 pub executed-done : (decode : ℕ → ℕ → Instruction) (k : Core) (i : Instruction) (p m : List ℕ) → (executed decode k i p m).done ≡ done_of i
 executed-done decode k i p m =
-    same-done (executed decode k i p m).done (done_of i) (each (λ i. sameDone (executed decode k i p m).done (done_of i)) (λ a b. tt) tt i)
+    same-done (executed decode k i p m).done (done_of i) (each (λ i. same_done (executed decode k i p m).done (done_of i)) (λ a b. tt) tt i)

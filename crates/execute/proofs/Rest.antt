@@ -11,7 +11,7 @@ use Rattle.cores.specs.declared.Core.{Core}
 use Rattle.execute.specs.Needs.{refusal, needs}
 use Rattle.execute.specs.Execute.{done_of}
 use Rattle.execute.specs.declared.Done.TheVariants.{Ran}
-use Rattle.execute.proofs.Answers.{sameDone, same-done}
+use Rattle.execute.proofs.Answers.{same_done, same-done}
 
 abbrev among : List ℕ → ℕ → Bool
 among [] n = false
@@ -43,7 +43,7 @@ rest_ran i sleep wdr undef brk =
     let t = tag_of the_type i in
     let not_at : (n : ℕ) → But n i → T (all_keys (λ k. not (eqb k n)) (others (λ k. eqb k n))) → T (not (eqb t n)) = λ n h. one_of (λ k. not (eqb k n)) (others (λ k. eqb k n)) t h in
     let none = neither (eqb t 71) _ (not_at 71 sleep tt) (neither (eqb t 85) _ (not_at 85 wdr tt) (neither (eqb t 86) _ (not_at 86 undef tt) (neither (eqb t 10) false (not_at 10 brk tt) tt))) in
-    same-done Ran (done_of i) (left_over told (λ i. sameDone Ran (done_of i)) (each (λ i. told (tag_of the_type i) || sameDone Ran (done_of i)) (λ a b. tt) tt) i none)
+    same-done Ran (done_of i) (left_over told (λ i. same_done Ran (done_of i)) (each (λ i. told (tag_of the_type i) || same_done Ran (done_of i)) (λ a b. tt) tt) i none)
 
 -- ---- the instructions that need something
 abbrev needy : ℕ → Bool

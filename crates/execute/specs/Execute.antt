@@ -8,7 +8,7 @@ use Rattle.memory.specs.Memory.{bit_set_of}
 use Rattle.cores.specs.declared.Core.{Core}
 use Rattle.cores.specs.State.{Out, out, reg, word, with_reg, with_word, with_pc, with_inhibit}
 use Rattle.cores.specs.Arithmetic.{adc_of, add_of, adiw_of, and_of, com_of, dec_of, eor_of, fmul_of, fmuls_of, fmulsu_of, inc_of, mul_of, muls_of, mulsu_of, neg_of, or_of, sbc_of, sbiw_of, sub_of}
-use Rattle.cores.specs.Flow.{over_second, brbx_of, call_of, cp_of, cpc_of, cpseOf, icall_of, ijmp_of, jmp_of, rcall_of, ret_of, reti_of, rjmp_of, sbixOf, sbrxOf}
+use Rattle.cores.specs.Flow.{over_second, brbx_of, call_of, cp_of, cpc_of, cpse_of, icall_of, ijmp_of, jmp_of, rcall_of, ret_of, reti_of, rjmp_of, sbix_of, sbrx_of}
 use Rattle.cores.specs.Bits.{asr_of, bclr_of, bld_of, bset_of, bst_of, lsr_of, ror_of, swap_of}
 use Rattle.cores.specs.Transfer.{set_data_of, in_of, ld_of, st_of, lds_of, lpm_of, pop_of, push_of, sts_of}
 use Rattle.execute.specs.declared.Done.{Done}
@@ -59,7 +59,7 @@ module _ (decode : ℕ → ℕ → Instruction) where
   executed k (CP d r) p m = ran (cp_of k d (reg k r)) m
   executed k (CPC d r) p m = ran (cpc_of k d (reg k r)) m
   executed k (CPI d K) p m = ran (cp_of k d K) m
-  executed k (CPSE d r) p m = ran (cpseOf decode k d r p) m
+  executed k (CPSE d r) p m = ran (cpse_of decode k d r p) m
   executed k (DEC d) p m = ran (dec_of k d) m
   executed k (EOR d r) p m = ran (eor_of k d (reg k r)) m
   executed k (FMUL d r) p m = ran (fmul_of k d r) m
@@ -106,11 +106,11 @@ module _ (decode : ℕ → ℕ → Instruction) where
   executed k (SBC d r) p m = ran (sbc_of k d (reg k r)) m
   executed k (SBCI d K) p m = ran (sbc_of k d K) m
   executed k (SBI A b) p m = ran k (bit_set_of m A b true)
-  executed k (SBIC A b) p m = ran (sbixOf decode k A b false p m) m
-  executed k (SBIS A b) p m = ran (sbixOf decode k A b true p m) m
+  executed k (SBIC A b) p m = ran (sbix_of decode k A b false p m) m
+  executed k (SBIS A b) p m = ran (sbix_of decode k A b true p m) m
   executed k (SBIW d K) p m = ran (sbiw_of k d K) m
-  executed k (SBRC r b) p m = ran (sbrxOf decode k r b false p) m
-  executed k (SBRS r b) p m = ran (sbrxOf decode k r b true p) m
+  executed k (SBRC r b) p m = ran (sbrx_of decode k r b false p) m
+  executed k (SBRS r b) p m = ran (sbrx_of decode k r b true p) m
   executed k SLEEP p m = did Sleep k m
   executed k (STX r) p m = ran_out (st_of k r 26 0 false false m)
   executed k (STXdec r) p m = ran_out (st_of k r 26 0 true false m)

@@ -9,7 +9,7 @@ use Rattle.instruction.specs.declared.Instruction.TheVariants.{ADC, ADD, ADIW, A
 use Rattle.memory.specs.Memory.{has_of, has_word_of}
 use Rattle.cores.specs.declared.Core.{Core}
 use Rattle.cores.specs.State.{reg, word}
-use Rattle.cores.specs.Flow.{twoAt, data_bit_is}
+use Rattle.cores.specs.Flow.{two_at, data_bit_is}
 use Rattle.cores.specs.Transfer.{reach_of, pointed_of}
 
 -- what a step needs is there: one test for each of refusals 1 to 4
@@ -61,11 +61,11 @@ with_fetch f n = record { program = f && n.program; room = n.room; stack = n.sta
 
 module _ (decode : ℕ → ℕ → Instruction) where
   -- "taken skip at PC 65,534, or at 65,533 over a two-word instruction"; "the word to be skipped"; b: the skip's own data byte
-  abbrev pub skipNeeds : Core → Bool → List ℕ → Bool → Needs
-  skipNeeds k taken p b =
+  abbrev pub skip_needs : Core → Bool → List ℕ → Bool → Needs
+  skip_needs k taken p b =
       record {
         program = pick taken (has_word_of p k.pc) true;
-        room = pick taken (nat_lt (k.pc + one (twoAt decode k p)) 65535) true;
+        room = pick taken (nat_lt (k.pc + one (two_at decode k p)) 65535) true;
         stack = true;
         bytes = b;
       }
@@ -91,7 +91,7 @@ module _ (decode : ℕ → ℕ → Instruction) where
   needs k (CP d r) p m = nothing
   needs k (CPC d r) p m = nothing
   needs k (CPI d K) p m = nothing
-  needs k (CPSE d r) p m = skipNeeds k (reg k d == reg k r) p true
+  needs k (CPSE d r) p m = skip_needs k (reg k d == reg k r) p true
   needs k (DEC d) p m = nothing
   needs k (EOR d r) p m = nothing
   needs k (FMUL d r) p m = nothing
@@ -138,11 +138,11 @@ module _ (decode : ℕ → ℕ → Instruction) where
   needs k (SBC d r) p m = nothing
   needs k (SBCI d K) p m = nothing
   needs k (SBI A b) p m = byte (has_of m A)
-  needs k (SBIC A b) p m = skipNeeds k (data_bit_is m A b false) p (has_of m A)
-  needs k (SBIS A b) p m = skipNeeds k (data_bit_is m A b true) p (has_of m A)
+  needs k (SBIC A b) p m = skip_needs k (data_bit_is m A b false) p (has_of m A)
+  needs k (SBIS A b) p m = skip_needs k (data_bit_is m A b true) p (has_of m A)
   needs k (SBIW d K) p m = nothing
-  needs k (SBRC r b) p m = skipNeeds k (beq (bit (reg k r) b) false) p true
-  needs k (SBRS r b) p m = skipNeeds k (beq (bit (reg k r) b) true) p true
+  needs k (SBRC r b) p m = skip_needs k (beq (bit (reg k r) b) false) p true
+  needs k (SBRS r b) p m = skip_needs k (beq (bit (reg k r) b) true) p true
   needs k SLEEP p m = nothing
   needs k (STX r) p m = at_pointer k 26 0 false m
   needs k (STXdec r) p m = at_pointer k 26 0 true m

@@ -5,7 +5,7 @@ ghost use Rattle.basis.specs.Bit.{one, bit};
 ghost use Rattle.instruction.specs.Decode.{decode_of};
 ghost use Rattle.memory.specs.Memory.{has_of};
 ghost use Rattle.cores.specs.State.{reg, word};
-ghost use Rattle.cores.specs.Flow.{twoAt, data_bit_is};
+ghost use Rattle.cores.specs.Flow.{two_at, data_bit_is};
 ghost use Rattle.cores.specs.Transfer.{reach_of};
 ghost use Rattle.execute.specs.Execute.{behind};
 ghost use Rattle.execute.specs.Needs.{
@@ -17,7 +17,7 @@ ghost use Rattle.execute.specs.Needs.{
   push_needs,
   pop_needs,
   at_pointer,
-  skipNeeds,
+  skip_needs,
   needs,
 };
 
@@ -134,7 +134,7 @@ fn pop_refusal(core: Core, data: &[u8]) -> u8
 
 // PC stays below 65,536 behind the word to be skipped, whose length is asked for only where it decides.
 fn skip_has_room(core: Core, program: &[u8]) -> bool
-    ensures { result ≡ nat_lt (core.pc + one (twoAt decode_of core program.now)) 65535 }
+    ensures { result ≡ nat_lt (core.pc + one (two_at decode_of core program.now)) 65535 }
 {
     if core.pc < 65534 {
         return true;
@@ -147,7 +147,7 @@ fn skip_has_room(core: Core, program: &[u8]) -> bool
 
 // The word to be skipped, where the skip is taken; `there`: its own data byte.
 fn skip_refusal(core: Core, taken: bool, program: &[u8], there: bool) -> u8
-    ensures { result ≡ refusal (skipNeeds decode_of core taken program.now there) }
+    ensures { result ≡ refusal (skip_needs decode_of core taken program.now there) }
 {
     if taken {
         let room = skip_has_room(core, program);
@@ -158,7 +158,7 @@ fn skip_refusal(core: Core, taken: bool, program: &[u8], there: bool) -> u8
 }
 
 fn cpse_refusal(core: Core, d: u8, r: u8, program: &[u8]) -> u8
-    ensures { result ≡ refusal (skipNeeds decode_of core (reg core d == reg core r) program.now true) }
+    ensures { result ≡ refusal (skip_needs decode_of core (reg core d == reg core r) program.now true) }
 {
     skip_refusal(
         core,
@@ -169,7 +169,7 @@ fn cpse_refusal(core: Core, d: u8, r: u8, program: &[u8]) -> u8
 }
 
 fn sbix_refusal(core: Core, A: u8, b: u8, set: bool, program: &[u8], data: &[u8]) -> u8
-    ensures { result ≡ refusal (skipNeeds decode_of core (data_bit_is «data».now A b set) program.now (has_of «data».now A)) }
+    ensures { result ≡ refusal (skip_needs decode_of core (data_bit_is «data».now A b set) program.now (has_of «data».now A)) }
 {
     let there = memory::has(data, A as usize);
     let bitval = basis::bit(memory::read(data, A as usize), b);
@@ -177,7 +177,7 @@ fn sbix_refusal(core: Core, A: u8, b: u8, set: bool, program: &[u8], data: &[u8]
 }
 
 fn sbrx_refusal(core: Core, r: u8, b: u8, set: bool, program: &[u8]) -> u8
-    ensures { result ≡ refusal (skipNeeds decode_of core (beq (bit (reg core r) b) set) program.now true) }
+    ensures { result ≡ refusal (skip_needs decode_of core (beq (bit (reg core r) b) set) program.now true) }
 {
     let bitval = basis::bit(core.get_register(r), b);
     skip_refusal(core, bitval == set, program, true)

@@ -15,16 +15,16 @@ use Rattle.hex_line.specs.Line.{lines_of, is_end, end_of, fault_of}
 use Rattle.hex_line.proofs.Judged.{fault_numbers}
 use Rattle.intel_hex.specs.declared.check.Read.{Read}
 use Rattle.intel_hex.specs.Reading.{answer, behind_end, checked, read_of}
-use Rattle.intel_hex.specs.Answers.{goodData, endAfter, At, Ends, NoEnd, Behind, EachNumberExactly}
+use Rattle.intel_hex.specs.Answers.{good_data, end_after, At, Ends, NoEnd, Behind, EachNumberExactly}
 use Rattle.intel_hex.proofs.Checked.{faulty, last}
 
 -- ---- from the lines to the answer
-past : (size : ℕ) (before rest : List (List ℕ)) (n end : ℕ) → goodData size end before ≡ true
-    → checked size n end (before ++ rest) ≡ checked size (n + length before) (endAfter end before) rest
-unfolding checked goodData endAfter
+past : (size : ℕ) (before rest : List (List ℕ)) (n end : ℕ) → good_data size end before ≡ true
+    → checked size n end (before ++ rest) ≡ checked size (n + length before) (end_after end before) rest
+unfolding checked good_data end_after
 past size [] rest n end h = rw (add-zero n)
 past size (l ∷ before) rest n end h =
-    let (good, rest-good) = both_true (eqb (fault_of size end l) 0 && not (is_end l)) (goodData size (end_of l) before) h in
+    let (good, rest-good) = both_true (eqb (fault_of size end l) 0 && not (is_end l)) (good_data size (end_of l) before) h in
     let (right, on) = both_true (eqb (fault_of size end l) 0) (not (is_end l)) good in
     let e : n + suc (length before) ≡ n + 1 + length before = omega arith in
     rw (right, not-true (is_end l) on, e) (past size before rest (n + 1) (end_of l) rest-good)
@@ -35,7 +35,7 @@ module _ (t : List ℕ) (size : ℕ) where
 
   from_at : (n k : ℕ) → (k ≡ 0 → ⊥) → At t size n (λ end l. eqb (fault_of size end l) k) → read_of t size ≡ answer k n
   from_at n k h w =
-      let end = endAfter 0 w.before in
+      let end = end_after 0 w.before in
       let f : fault_of size end w.line ≡ k = eqb-true _ k w.wrong in
       let e : 1 + length w.before ≡ n = omega (arith, w.number) in
       let refused = faulty size (1 + length w.before) end w.line w.after (λ z. h (sym f ∙ z)) in
@@ -44,7 +44,7 @@ module _ (t : List ℕ) (size : ℕ) where
   from_ends : (after : List (List ℕ)) → (w : Ends t size after) → read_of t size ≡ behind_end (length w.before + 2) after
   from_ends after w =
       let e : 1 + length w.before + 1 ≡ length w.before + 2 = omega arith in
-      let ended = last size (1 + length w.before) (endAfter 0 w.before) w.line after w.right (eqb-true _ 1 w.ends) in
+      let ended = last size (1 + length w.before) (end_after 0 w.before) w.line after w.right (eqb-true _ 1 w.ends) in
       small_read w.small ∙ rw (w.lines, past size w.before (w.line ∷ after) 1 0 w.good, ended, e)
 
   from_no_end : (n : ℕ) → NoEnd t size n → read_of t size ≡ answer 56 n
@@ -66,18 +66,18 @@ record Split (size end : ℕ) (ls : List (List ℕ)) : Type 0 where
   before : List (List ℕ)
   rest : List (List ℕ)
   lines : ls ≡ before ++ rest
-  good : goodData size end before ≡ true
-  what : Rest size (endAfter end before) rest
+  good : good_data size end before ≡ true
+  what : Rest size (end_after end before) rest
 
 split_by : (size end : ℕ) (l : List ℕ) (ls : List (List ℕ)) (right end? : Bool) → eqb (fault_of size end l) 0 ≡ right → is_end l ≡ end? → Split size (end_of l) ls → Split size end (l ∷ ls)
-unfolding goodData endAfter
+unfolding good_data end_after
 split_by size end l ls false end? e f s = record { before = []; rest = l ∷ ls; lines = refl; good = refl; what = wrong l ls (eqb-false _ 0 e) }
 split_by size end l ls true true e f s = record { before = []; rest = l ∷ ls; lines = refl; good = refl; what = ends l ls (eqb-true _ 0 e) f }
 split_by size end l ls true false e f s =
     record { before = l ∷ s.before; rest = s.rest; lines = rw (← s.lines); good = rw (e, f) s.good; what = s.what }
 
 split : (size : ℕ) (ls : List (List ℕ)) (end : ℕ) → Split size end ls
-unfolding goodData endAfter
+unfolding good_data end_after
 split size [] end = record { before = []; rest = []; lines = refl; good = refl; what = none }
 split size (l ∷ ls) end = split_by size end l ls (eqb (fault_of size end l) 0) (is_end l) refl refl (split size ls (end_of l))
 
@@ -93,11 +93,11 @@ fault_lt : (size end : ℕ) (l : List ℕ) → fault_of size end l < 56
 unfolding fault_of
 fault_lt size end l = (fault_numbers size end l).6
 
-module _ (t : List ℕ) (size : ℕ) (small : size ≤ 65536) (before : List (List ℕ)) (good : goodData size 0 before ≡ true) where
-  abbrev found-end : (l : List ℕ) (after : List (List ℕ)) → lines_of t ≡ before ++ (l ∷ after) → fault_of size (endAfter 0 before) l ≡ 0 → is_end l ≡ true → Ends t size after
-  found-end l after e h k = record { small = small; before = before; line = l; lines = e; good = good; right = h; ends = k }
+module _ (t : List ℕ) (size : ℕ) (small : size ≤ 65536) (before : List (List ℕ)) (good : good_data size 0 before ≡ true) where
+  abbrev found_end : (l : List ℕ) (after : List (List ℕ)) → lines_of t ≡ before ++ (l ∷ after) → fault_of size (end_after 0 before) l ≡ 0 → is_end l ≡ true → Ends t size after
+  found_end l after e h k = record { small = small; before = before; line = l; lines = e; good = good; right = h; ends = k }
 
-  by_rest : {rest : List (List ℕ)} → lines_of t ≡ before ++ rest → Rest size (endAfter 0 before) rest → Outcome t size (read_of t size)
+  by_rest : {rest : List (List ℕ)} → lines_of t ≡ before ++ rest → Rest size (end_after 0 before) rest → Outcome t size (read_of t size)
   by_rest e none =
       let n = length before + 1 in
       let all : lines_of t ≡ before = e ∙ append-nil before in
@@ -105,14 +105,14 @@ module _ (t : List ℕ) (size : ℕ) (small : size ≤ 65536) (before : List (Li
       missing n (from_no_end t size n w) w
   by_rest e (wrong l after h) =
       let n = length before + 1 in
-      let k = fault_of size (endAfter 0 before) l in
+      let k = fault_of size (end_after 0 before) l in
       let w : At t size n (λ end l. eqb (fault_of size end l) k) =
       record { small = small; before = before; line = l; after = after; lines = e; number = refl; good = good; wrong = eq-eqb k k refl } in
-      faulty_at n k (from_at t size n k h w) h (fault_lt size (endAfter 0 before) l) w
-  by_rest e (ends l [] h k) = let w = found-end l [] e h k in whole (from_ends t size [] w) w
+      faulty_at n k (from_at t size n k h w) h (fault_lt size (end_after 0 before) l) w
+  by_rest e (ends l [] h k) = let w = found_end l [] e h k in whole (from_ends t size [] w) w
   by_rest e (ends l (x ∷ after) h k) =
       let n = length before + 2 in
-      let w : Behind t size n = record { line = x; after = after; end = found-end l (x ∷ after) e h k; number = refl } in
+      let w : Behind t size n = record { line = x; after = after; end = found_end l (x ∷ after) e h k; number = refl } in
       behind n (from_behind t size n w) w
 
 outcome_by : (t : List ℕ) (size : ℕ) (large? : Bool) → ltb 65536 size ≡ large? → Outcome t size (read_of t size)
@@ -160,7 +160,7 @@ module _ {t : List ℕ} {size n : ℕ} where
 
   same_at : (Wrong Also : ℕ → List ℕ → Bool) → ((end : ℕ) (l : List ℕ) → Wrong end l ≡ Also end l) → At t size n Wrong → At t size n Also
   same_at Wrong Also same w =
-      let e = same (endAfter 0 w.before) w.line in
+      let e = same (end_after 0 w.before) w.line in
       record { small = w.small; before = w.before; line = w.line; after = w.after; lines = w.lines; number = w.number; good = w.good; wrong = sym e ∙ w.wrong }
 
   -- a number of a line, by what is wrong with the line

@@ -5,14 +5,14 @@ use Rattle.hex_line.specs.Line.{lines_of, is_end, end_of, wrong_character, wrong
 use Rattle.intel_hex.specs.Reading.{answer, read_of}
 
 -- data lines without a fault, one after another
-unfoldable pub goodData : ℕ → ℕ → List (List ℕ) → Bool
-goodData size end [] = true
-goodData size end (l ∷ ls) = eqb (fault_of size end l) 0 && not (is_end l) && goodData size (end_of l) ls
+unfoldable pub good_data : ℕ → ℕ → List (List ℕ) → Bool
+good_data size end [] = true
+good_data size end (l ∷ ls) = eqb (fault_of size end l) 0 && not (is_end l) && good_data size (end_of l) ls
 
 -- where the last of them ends
-unfoldable pub endAfter : ℕ → List (List ℕ) → ℕ
-endAfter end [] = end
-endAfter end (l ∷ ls) = endAfter (end_of l) ls
+unfoldable pub end_after : ℕ → List (List ℕ) → ℕ
+end_after end [] = end
+end_after end (l ∷ ls) = end_after (end_of l) ls
 
 -- line n, the first behind good data lines, and what is wrong with it where the data line before ended at `end`
 pub record At (t : List ℕ) (size n : ℕ) (Wrong : ℕ → List ℕ → Bool) : Type 0 where
@@ -22,8 +22,8 @@ pub record At (t : List ℕ) (size n : ℕ) (Wrong : ℕ → List ℕ → Bool) 
   pub after : List (List ℕ)
   pub lines : lines_of t ≡ before ++ (line ∷ after)
   pub number : n ≡ length before + 1
-  pub good : goodData size 0 before ≡ true
-  pub wrong : Wrong (endAfter 0 before) line ≡ true
+  pub good : good_data size 0 before ≡ true
+  pub wrong : Wrong (end_after 0 before) line ≡ true
 
 -- a good end record, behind good data lines and before the lines `after`
 pub record Ends (t : List ℕ) (size : ℕ) (after : List (List ℕ)) : Type 0 where
@@ -31,14 +31,14 @@ pub record Ends (t : List ℕ) (size : ℕ) (after : List (List ℕ)) : Type 0 w
   pub before : List (List ℕ)
   pub line : List ℕ
   pub lines : lines_of t ≡ before ++ (line ∷ after)
-  pub good : goodData size 0 before ≡ true
-  pub right : fault_of size (endAfter 0 before) line ≡ 0
+  pub good : good_data size 0 before ≡ true
+  pub right : fault_of size (end_after 0 before) line ≡ 0
   pub ends : is_end line ≡ true
 
 -- "56 end record missing": "named at the line after the last"
 pub record NoEnd (t : List ℕ) (size n : ℕ) : Type 0 where
   pub small : size ≤ 65536
-  pub good : goodData size 0 (lines_of t) ≡ true
+  pub good : good_data size 0 (lines_of t) ≡ true
   pub number : n ≡ length (lines_of t) + 1
 
 -- "or any line after it": the line behind the end record

@@ -8,9 +8,9 @@ use native.Mathlib.Nat.{eq-or-lt_of_le}
 use native.Mathlib.Decide.{dec_lt}
 use native.Mathlib.Omega.{arith}
 use Rattle.basis.proofs.Choice.{clash}
-use Rattle.interrupts.specs.Handlers.{iterated, First, NotYet, FirstReti, OfHandler, placeAt, countedAt, handlerTicks}
+use Rattle.interrupts.specs.Handlers.{iterated, First, NotYet, FirstReti, OfHandler, place_at, counted_at, handler_ticks}
 use Rattle.interrupts.proofs.Logic.{grow, first_unique}
-use Rattle.interrupts.specs.Machine.{Machine, Given, Laws, Ended, Restored, Handled, Transparent, after, entersAt, returnsAt}
+use Rattle.interrupts.specs.Machine.{Machine, Given, Laws, Ended, Restored, Handled, Transparent, after, enters_at, returns_at}
 use Rattle.interrupts.proofs.Lockstep.{run, en, re, Tick, Link, Ready, runs_on}
 use Rattle.interrupts.proofs.Handled.{whole}
 
@@ -25,7 +25,7 @@ module _ {M : Machine} (G : Given M) where
       let w = whole G j i k l h b f in
       runs_on G w.at i k w.link h w.ready (laws.inhibited (v w.at) (run G w.at) w.inhibits)
 
-  counts_of : (t : ℕ) → Tick G t → (countedAt (en G) (re G) t ≡ 1) ↔ OfHandler (en G) (re G) t
+  counts_of : (t : ℕ) → Tick G t → (counted_at (en G) (re G) t ≡ 1) ↔ OfHandler (en G) (re G) t
   counts_of t (inl x) = (λ c. absurd (omega (arith, c, x.zero_counted)), λ y. absurd (x.no_handler y))
   counts_of t (inr x) = (λ c. x.of_handler, λ y. x.one_counted)
 
@@ -62,7 +62,7 @@ module _ {M : Machine} (G : Given M) where
       arrives m (suc k) r.at r.plain_at (omega arith) r.link r.ready
 
   pub transparent : busy s ≡ 0 → service s ≡ false → (J : ℕ) × (I : ℕ) × Transparent M v s n J I
-  unfolding iterated placeAt handlerTicks
+  unfolding iterated place_at handler_ticks
   transparent b f =
       arrives n 0 0 0 (omega arith)
       (record {
@@ -79,7 +79,7 @@ module _ {M : Machine} (G : Given M) where
 -- ---- the same where the run is known to get to the end first after J ticks: the premises speak of ticks before J alone
 module _ (M : Machine) (v : ℕ → M.Offer) (s : M.State) (n J : ℕ) (L : Laws M (M.pc s) (M.pc s + n)) (f : First (Ended M v s n) J)
     (allowed : (t : ℕ) → t < J → M.Allowed (v t) (after M v s t))
-    (restored : (t r : ℕ) → r < J → entersAt M v s t ≡ true → FirstReti (returnsAt M v s) t r → Restored M v s t r) where
+    (restored : (t r : ℕ) → r < J → enters_at M v s t ≡ true → FirstReti (returns_at M v s) t r → Restored M v s t r) where
   open M use {tick, busy, service}
 
   before_J : (t : ℕ) → NotYet (Ended M v s n) t → t < J
@@ -87,14 +87,14 @@ module _ (M : Machine) (v : ℕ → M.Offer) (s : M.State) (n J : ℕ) (L : Laws
 
   -- after tick t and before tick d nothing executes RETI
   abbrev NoReti : ℕ → ℕ → Type 0
-  NoReti t d = (u : ℕ) → t < u → u < d → returnsAt M v s u ≡ false
+  NoReti t d = (u : ℕ) → t < u → u < d → returns_at M v s u ≡ false
 
   -- the first RETI after tick t is before tick d, or there is none
   abbrev Search : ℕ → ℕ → Type 0
-  Search t d = ((r : ℕ) × (r < d) × FirstReti (returnsAt M v s) t r) ⊎ NoReti t d
+  Search t d = ((r : ℕ) × (r < d) × FirstReti (returns_at M v s) t r) ⊎ NoReti t d
 
   -- entered at tick j and no RETI up to J: in service to the end
-  lasting : (j : ℕ) → NoReti j J → entersAt M v s j ≡ true → (d : ℕ) → j < d → d ≤ J → service (after M v s d) ≡ true
+  lasting : (j : ℕ) → NoReti j J → enters_at M v s j ≡ true → (d : ℕ) → j < d → d ≤ J → service (after M v s d) ≡ true
   unfolding iterated
   lasting j h e zero a b = absurd (omega arith)
   lasting j h e (suc d) a b =
@@ -104,17 +104,17 @@ module _ (M : Machine) (v : ℕ → M.Offer) (s : M.State) (n J : ℕ) (L : Laws
         | inr l ↦ L.serve (v d) (after M v s d) (lasting j h e d l (omega arith)) (h d l (omega arith))
       ]
 
-  more : (t d : ℕ) → Search t d → Dec (t < d) → (c : Bool) → returnsAt M v s d ≡ c → Search t (suc d)
+  more : (t d : ℕ) → Search t d → Dec (t < d) → (c : Bool) → returns_at M v s d ≡ c → Search t (suc d)
   more t d (inl x) y c h = inl (x.0, omega (arith, x.1), x.2)
   more t d (inr g) (no a) c h = inr (λ u p q. absurd (omega arith))
   more t d (inr g) (yes a) true h = inl (d, omega arith, record { later = a; here = h; not_between = g })
-  more t d (inr g) (yes a) false h = inr (λ u p q. grow (λ u. t < u → returnsAt M v s u ≡ false) d (λ u q p. g u p q) (λ p. h) u q p)
+  more t d (inr g) (yes a) false h = inr (λ u p q. grow (λ u. t < u → returns_at M v s u ≡ false) d (λ u q p. g u p q) (λ p. h) u q p)
 
   find : (t d : ℕ) → Search t d
   find t zero = inr (λ u a b. absurd (omega arith))
-  find t (suc d) = more t d (find t d) (dec_lt t d) (returnsAt M v s d) refl
+  find t (suc d) = more t d (find t d) (dec_lt t d) (returns_at M v s d) refl
 
-  returned : (t : ℕ) → t < J → entersAt M v s t ≡ true → Search t J → Handled M v s t
+  returned : (t : ℕ) → t < J → enters_at M v s t ≡ true → Search t J → Handled M v s t
   returned t h e (inl x) = record { at = x.0; reti = x.2; restored = restored t x.0 x.1 e x.2 }
   returned t h e (inr g) = clash (sym (lasting t g e J h (omega arith)) ∙ f.reached.free)
 

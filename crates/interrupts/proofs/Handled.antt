@@ -8,7 +8,7 @@ use native.Mathlib.Nat.{eq-or-lt_of_le}
 use native.Mathlib.Decide.{dec_lt}
 use native.Mathlib.Omega.{arith}
 use Rattle.basis.proofs.Choice.{clash}
-use Rattle.interrupts.specs.Handlers.{iterated, FirstReti, Place, stretch, handler, waits3, waits2, waits1, walk, counted, placeAt, countedAt, handlerTicks}
+use Rattle.interrupts.specs.Handlers.{iterated, FirstReti, Place, stretch, handler, waits3, waits2, waits1, walk, counted, place_at, counted_at, handler_ticks}
 use Rattle.interrupts.proofs.Logic.{grow, reti_unique}
 use Rattle.interrupts.specs.Machine.{Machine, Given, Restored}
 use Rattle.interrupts.proofs.Lockstep as step
@@ -27,7 +27,7 @@ module _ {M : Machine} (G : Given M) where
   re t = step.re G t
 
   abbrev ticks_of : ℕ → ℕ
-  ticks_of j = handlerTicks en re j
+  ticks_of j = handler_ticks en re j
 
   -- entered at tick t, with its first RETI at tick r
   module _ (t r : ℕ) (e : en t ≡ true) (f : FirstReti re t r) where
@@ -39,11 +39,11 @@ module _ {M : Machine} (G : Given M) where
     record Within (j : ℕ) : Type 0 where
       past : step.Past G j
       alone : Alone j
-      in_handler : placeAt en re j ≡ handler
+      in_handler : place_at en re j ≡ handler
       serves : service (run j) ≡ true
       ticks : ticks_of j + t ≡ ticks_of t + j
 
-    held_tick : (j : ℕ) → countedAt en re j ≡ 1 → t ≤ j → j ≤ r + 3 → step.Tick G j
+    held_tick : (j : ℕ) → counted_at en re j ≡ 1 → t ≤ j → j ≤ r + 3 → step.Tick G j
     held_tick j c a b = inr (record { one_counted = c; of_handler = record { entry = t; reti = r; entered = e; first = f; from = a; to = b } })
 
     alone_on : (j : ℕ) → Alone j → en j ≡ false → Alone (suc j)
@@ -52,8 +52,8 @@ module _ {M : Machine} (G : Given M) where
     not_end : (j : ℕ) → Within j → ¬ (step.End G (run j))
     not_end j w a = clash (sym w.serves ∙ a.free)
 
-    entered : step.Past G t → ¬ (step.End G (run t)) → placeAt en re t ≡ stretch → Within (suc t)
-    unfolding iterated placeAt handlerTicks walk counted
+    entered : step.Past G t → ¬ (step.End G (run t)) → place_at en re t ≡ stretch → Within (suc t)
+    unfolding iterated place_at handler_ticks walk counted
     entered p a m =
         record {
           past = step.past_on G t p a (held_tick t (rw (m, e)) (omega arith) (omega (arith, f.later)));
@@ -64,7 +64,7 @@ module _ {M : Machine} (G : Given M) where
         }
 
     within_on : (j : ℕ) → t < j → j < r → Within j → Within (suc j)
-    unfolding iterated placeAt handlerTicks walk counted
+    unfolding iterated place_at handler_ticks walk counted
     within_on j a b w =
         let m = w.in_handler in
         let x = f.not_between j a b in
@@ -86,7 +86,7 @@ module _ {M : Machine} (G : Given M) where
     record Leaving (m : Place) (b j : ℕ) : Type 0 where
       past : step.Past G j
       alone : Alone j
-      leaves : placeAt en re j ≡ m
+      leaves : place_at en re j ≡ m
       kept_back : kept (run j) ≡ kept (run t)
       sp_back : sp (run j) ≡ sp (run t)
       pc_back : pc (run j) ≡ pc (run t)
@@ -97,7 +97,7 @@ module _ {M : Machine} (G : Given M) where
       left_over : j + b ≡ r + 4
 
     left : Within r → Restored M v s t r → Leaving waits3 3 (suc r)
-    unfolding iterated placeAt handlerTicks walk counted
+    unfolding iterated place_at handler_ticks walk counted
     left w k =
         let m = w.in_handler in
         let n = laws.enter (v t) (run t) e in
@@ -120,7 +120,7 @@ module _ {M : Machine} (G : Given M) where
 
     leaving_on : (m m' : Place) (b j : ℕ) → ((e r : Bool) → walk m e r ≡ m') → ((e : Bool) → counted m e ≡ 1) → b < 4 → t ≤ j
         → Leaving m (suc b) j → Leaving m' b (suc j)
-    unfolding iterated placeAt handlerTicks
+    unfolding iterated place_at handler_ticks
     leaving_on m m' b j g c small a l =
         let (_, no_entry, w) = laws.wait (v j) (run j) b l.waiting small in
         record {

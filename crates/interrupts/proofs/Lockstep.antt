@@ -7,9 +7,9 @@ use Prim.Native.Nat.{ℕ, zero, suc, ◌+◌, ◌*◌, ◌≤◌, ◌<◌}
 use native.Mathlib.Nat.{eq-or-lt_of_le}
 use native.Mathlib.Omega.{arith}
 use Rattle.basis.proofs.Choice.{clash}
-use Rattle.interrupts.specs.Handlers.{iterated, FirstReti, OfHandler, stretch, walk, counted, placeAt, countedAt, handlerTicks}
+use Rattle.interrupts.specs.Handlers.{iterated, FirstReti, OfHandler, stretch, walk, counted, place_at, counted_at, handler_ticks}
 use Rattle.interrupts.proofs.Logic.{grow}
-use Rattle.interrupts.specs.Machine.{Machine, Given, AtEnd, InStretch, after, entersAt, returnsAt, quiet}
+use Rattle.interrupts.specs.Machine.{Machine, Given, AtEnd, InStretch, after, enters_at, returns_at, quiet}
 
 module _ {M : Machine} (G : Given M) where
   open M use {State, Offer, none, tick, Plain, kept, pc, sp, busy, service, rule, bytes}
@@ -23,10 +23,10 @@ module _ {M : Machine} (G : Given M) where
   plain i = after M (quiet M) s i
 
   abbrev pub en : ℕ → Bool
-  en t = entersAt M v s t
+  en t = enters_at M v s t
 
   abbrev pub re : ℕ → Bool
-  re t = returnsAt M v s t
+  re t = returns_at M v s t
 
   abbrev pub End : State → Type 0
   End a = AtEnd M (pc s + n) a
@@ -40,13 +40,13 @@ module _ {M : Machine} (G : Given M) where
   -- ---- what is known of the ticks done
   -- tick t is no handler's, and writes nothing
   pub record Silent (t : ℕ) : Type 0 where
-    pub zero_counted : countedAt en re t ≡ 0
+    pub zero_counted : counted_at en re t ≡ 0
     pub no_handler : ¬ (OfHandler en re t)
     pub same_bytes : bytes (run (suc t)) ≡ bytes (run t)
 
   -- tick t is a handler's
   pub record Held (t : ℕ) : Type 0 where
-    pub one_counted : countedAt en re t ≡ 1
+    pub one_counted : counted_at en re t ≡ 1
     pub of_handler : OfHandler en re t
 
   abbrev pub Tick : ℕ → Type 0
@@ -80,9 +80,9 @@ module _ {M : Machine} (G : Given M) where
     pub past : Past j
     pub over : Over j
     pub plain_past : PlainPast i
-    pub in_stretch : placeAt en re j ≡ stretch
+    pub in_stretch : place_at en re j ≡ stretch
     pub alike : Alike k (run j) (plain i)
-    pub ticks : j ≡ i + handlerTicks en re j
+    pub ticks : j ≡ i + handler_ticks en re j
     pub bound : i + busy (run j) ≤ 2 * k
 
   -- ---- one tick more
@@ -104,7 +104,7 @@ module _ {M : Machine} (G : Given M) where
   both : (j i k k' : ℕ) → Link j i k → ¬ (End (run j)) → ¬ (End (plain i)) → en j ≡ false → Plain none (plain i)
       → bytes (tick (v j) (run j)) ≡ bytes (run j) → bytes (tick none (plain i)) ≡ bytes (plain i)
       → Alike k' (tick (v j) (run j)) (tick none (plain i)) → suc i + busy (tick (v j) (run j)) ≤ 2 * k' → Link (suc j) (suc i) k'
-  unfolding iterated placeAt handlerTicks walk counted
+  unfolding iterated place_at handler_ticks walk counted
   both j i k k' l a q e g w w' x b =
       record {
         past = past_on j l.past a (inl (record { zero_counted = rw (l.in_stretch, e); no_handler = none_here; same_bytes = w }));

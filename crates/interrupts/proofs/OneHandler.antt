@@ -50,13 +50,13 @@ module _ (p : List ℕ) (s : State) where
       }
 
 module _ (p : List ℕ) (s : State) (n : ℕ) where
-  abbrev pub endTest : Offers → ℕ → Bool
-  endTest v t = let k = (after p s v t).core in eqb k.pc (pc s + n) && (eqb k.busy 0 && not k.in_service)
+  abbrev pub end_test : Offers → ℕ → Bool
+  end_test v t = let k = (after p s v t).core in eqb k.pc (pc s + n) && (eqb k.busy 0 && not k.in_service)
 
-  test_of : (v : Offers) (t : ℕ) → Ended p s n v t → T (endTest v t)
+  test_of : (v : Offers) (t : ℕ) → Ended p s n v t → T (end_test v t)
   test_of v t a = rw (eq-eqb (pc (after p s v t)) (pc s + n) a.there, eq-eqb (after p s v t).core.busy 0 a.ready, a.free) tt
 
-  pub ended_of : (v : Offers) (t : ℕ) → T (endTest v t) → Ended p s n v t
+  pub ended_of : (v : Offers) (t : ℕ) → T (end_test v t) → Ended p s n v t
   ended_of v t x =
       let k = (after p s v t).core in
       let there = eqb k.pc (pc s + n) in
@@ -69,17 +69,17 @@ module _ (p : List ℕ) (s : State) (n : ℕ) where
         free = denied k.in_service (both_right ready free y);
       }
 
-  pub first_of : (v : Offers) (J : ℕ) → T (endTest v J) → T (every J (λ t. not (endTest v t))) → First (Ended p s n v) J
+  pub first_of : (v : Offers) (J : ℕ) → T (end_test v J) → T (every J (λ t. not (end_test v t))) → First (Ended p s n v) J
   first_of v J x tests =
       record {
         reached = ended_of v J x;
-        not_before = λ u h y. T_not (endTest v u) (at (λ t. not (endTest v t)) J tests u h) (test_of v u y);
+        not_before = λ u h y. T_not (end_test v u) (at (λ t. not (end_test v t)) J tests u h) (test_of v u y);
       }
 
   -- at the end first after J ticks, no tick refused, the one entry at tick e and the one RETI at tick r
   pub record Walked (v : Offers) (J e r : ℕ) : Type 0 where
-    pub ended : T (endTest v J)
-    pub not_yet : T (every J (λ t. not (endTest v t)))
+    pub ended : T (end_test v J)
+    pub not_yet : T (every J (λ t. not (end_test v t)))
     pub allowed : T (every J (λ t. leb 16 (number_at p s v t)))
     pub entry : T (every J (λ t. beq (enters p s v t) (eqb t e)))
     pub reti : T (every J (λ t. beq (returns p s v t) (eqb t r)))

@@ -11,7 +11,7 @@ use Rattle.alu.specs.Alu.{minus_of}
 use Rattle.instruction.specs.Decode.{decode_of, nop_to_add_of, cpse_to_adc_of, immediate_of, load_of, store_of, one_register_of, control_of, port_of}
 use Rattle.memory.specs.Memory.{program_word_of, has_word_of}
 use Rattle.cores.specs.State.{reg, fresh_of, with_reg, with_pc, with_sp, with_busy, with_inhibit, with_service, cznvsh, cznvs, znvs}
-use Rattle.cores.specs.Flow.{opAt}
+use Rattle.cores.specs.Flow.{op_at}
 use Rattle.cores.specs.Transfer.{reach_of, data_of, set_data_of}
 use Rattle.tick.specs.Tick.{stepped, enters_or_steps, ticked}
 use Rattle.interrupts.specs.RegisterOnly.{register_only, kind_of}
@@ -20,7 +20,7 @@ use Rattle.interrupts.specs.Interrupts.{no_offers, byte_at, Begins, Ended, Resto
 use Rattle.interrupts.specs.Stamps.{program, start, between, plain, careful, careless, StampsInOrder, FlagLost}
 use Rattle.interrupts.proofs.Logic.{grow, first_unique}
 use Rattle.interrupts.proofs.Interrupts.{no_trace_at_the_end}
-use Rattle.interrupts.proofs.OneHandler.{same_list_lem, endTest, Walked, PutBack, restored_of, first_of, walked_first, walked_allowed, walked_reti, walked_assumed, walked_assumed_to}
+use Rattle.interrupts.proofs.OneHandler.{same_list_lem, end_test, Walked, PutBack, restored_of, first_of, walked_first, walked_allowed, walked_reti, walked_assumed, walked_assumed_to}
 
 -- ---- the stretch
 below_3 : (P : ℕ → Type 0) → P 0 → P 1 → P 2 → (x : ℕ) → x < 3 → P x
@@ -33,7 +33,7 @@ begins =
       stretch = record {
         ends = omega arith;
         there = λ x a h. below_3 (λ x. has_word_of program x ≡ true) refl refl refl x h;
-        list = λ x a h. below_3 (λ x. kind_of (opAt decode_of program x) ≡ register_only) refl refl refl x h;
+        list = λ x a h. below_3 (λ x. kind_of (op_at decode_of program x) ≡ register_only) refl refl refl x h;
       };
       ready = refl;
       free = refl;
@@ -41,8 +41,8 @@ begins =
 
 -- ---- what is computed
 record Computed : Type 0 where
-  plain_ended : T (endTest program start 3 no_offers 3)
-  plain_not_yet : T (every 3 (λ t. not (endTest program start 3 no_offers t)))
+  plain_ended : T (end_test program start 3 no_offers 3)
+  plain_not_yet : T (every 3 (λ t. not (end_test program start 3 no_offers t)))
   plain_earlier : reg (plain 3).core 20 ≡ 0xFF
   -- the first handler is entered at tick 1, and its RETI is tick 20
   careful_walk : Walked program start 3 (between 4) 26 1 20

@@ -11,7 +11,7 @@ use Rattle.basis.proofs.Choice.{clash}
 use Rattle.instruction.specs.Decode.{decode_of}
 use Rattle.instruction.specs.declared.Instruction.{Instruction}
 use Rattle.cores.specs.declared.Core.{Core}
-use Rattle.cores.specs.Flow.{opAt}
+use Rattle.cores.specs.Flow.{op_at}
 use Rattle.cores.specs.State.{with_inhibit}
 use Rattle.execute.specs.Needs.{refusal, push_needs, needs, fetched, with_fetch}
 use Rattle.execute.specs.Execute.{executed}
@@ -56,7 +56,7 @@ module _ (k : Core) (p m : List ℕ) (o : Offer) (b : k.busy ≡ 0) where
   pub undue_tick : due k o ≡ Nothing → tick_of k p m o ≡ enters_or_steps decode_of k p m Nothing
   undue_tick d = free_tick k p m o b ∙ ap (enters_or_steps decode_of k p m) d
 
-  pub step_tick : (op : Instruction) → due k o ≡ Nothing → k.pc < 65535 → opAt decode_of p k.pc ≡ op → Met op → tick_of k p m o ≡ done op
+  pub step_tick : (op : Instruction) → due k o ≡ Nothing → k.pc < 65535 → op_at decode_of p k.pc ≡ op → Met op → tick_of k p m o ≡ done op
   unfolding enters_or_steps stepped with_inhibit
   step_tick op d h e n =
       undue_tick d

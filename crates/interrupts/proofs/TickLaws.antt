@@ -16,7 +16,7 @@ use Rattle.instruction.specs.declared.Instruction.{Instruction}
 use Rattle.instruction.specs.declared.Instruction.TheVariants.{RETI}
 use Rattle.memory.specs.Memory.{has_of, has_word_of}
 use Rattle.cores.specs.declared.Core.{Core}
-use Rattle.cores.specs.Flow.{opAt}
+use Rattle.cores.specs.Flow.{op_at}
 use Rattle.cores.specs.State.{fresh_of, with_regs, with_pc, with_sp, with_busy, with_inhibit, with_service, with_chip}
 use Rattle.execute.specs.Needs.{refusal, push_needs, needs, fetched, with_fetch}
 use Rattle.execute.specs.Execute.{executed}
@@ -29,7 +29,7 @@ use Rattle.invariants.specs.Instructions.{inhibited_by}
 use Rattle.invariants.proofs.Controls.{only_reti_and_sei_touch_the_flags}
 use Rattle.invariants.proofs.Ticks.{done_enters_not}
 use Rattle.invariants.proofs.Rule.{ticks_keep_the_rule}
-use Rattle.tick.proofs.Steps.{busy_tick, onward, every-tick}
+use Rattle.tick.proofs.Steps.{busy_tick, onward, every_tick}
 use Rattle.interrupts.specs.RegisterOnly.{Kind, register_only, return, other, kind_of, is_return}
 use Rattle.interrupts.specs.Interrupts.{State, Kept, kept, pc, sp, tick_at, next, Stretch}
 use Rattle.interrupts.specs.Machine.{Machine, Laws, Waits, Runs, Enters, Returns}
@@ -49,7 +49,7 @@ enters_in t = eqb (number t) 17
 
 -- from PC x
 abbrev returns_in : List ℕ → ℕ → Tick → Bool
-returns_in p x t = eqb (number t) 18 && is_return (kind_of (opAt decode_of p x))
+returns_in p x t = eqb (number t) 18 && is_return (kind_of (op_at decode_of p x))
 
 abbrev pub avr : List ℕ → Machine
 avr p =
@@ -85,8 +85,8 @@ module _ (p : List ℕ) where
 
   -- ---- an instruction of the stretch
   -- the core after it
-  abbrev ranOn : Core → Instruction → Core
-  ranOn k op = with_busy (with_kept (inhibited_by op (onward k)) (does_of k.chip op (kept_of k))) (waits_of k.chip op)
+  abbrev ran_on : Core → Instruction → Core
+  ran_on k op = with_busy (with_kept (inhibited_by op (onward k)) (does_of k.chip op (kept_of k))) (waits_of k.chip op)
 
   idle : (k : Core) → k.busy ≡ 0 → with_busy k 0 ≡ k
   unfolding with_busy
@@ -96,7 +96,7 @@ module _ (p : List ℕ) where
   listed op k m l = subst (λ x. Fact x op k p m) l (fact op k p m)
 
   stepped_listed : (op : Instruction) (k : Core) (m : List ℕ) → k.busy ≡ 0 → has_word_of p k.pc ≡ true → kind_of op ≡ register_only
-      → decided (with_fetch (fetched p k.pc op) (needs decode_of (onward k) op p m)) k m (executed_tick (executed decode_of (onward k) op p m)) ≡ gives Ran (ranOn k op) m
+      → decided (with_fetch (fetched p k.pc op) (needs decode_of (onward k) op p m)) k m (executed_tick (executed decode_of (onward k) op p m)) ≡ gives Ran (ran_on k op) m
   unfolding with_inhibit with_pc
   stepped_listed op k m b there l =
       let (runs, nothing-needed, one_word, brief) = listed op (onward k) m l in
@@ -105,19 +105,19 @@ module _ (p : List ℕ) where
 
   -- at an instruction of the list, with data m
   module _ (k : Core) (m : List ℕ) (b : k.busy ≡ 0) (h : k.pc < 65535) (there : has_word_of p k.pc ≡ true)
-      (l : kind_of (opAt decode_of p k.pc) ≡ register_only) where
+      (l : kind_of (op_at decode_of p k.pc) ≡ register_only) where
     abbrev op : Instruction
-    op = opAt decode_of p k.pc
+    op = op_at decode_of p k.pc
 
     -- with no vector due
-    run_tick : (o : Offer) → due k o ≡ Nothing → tick_of k p m o ≡ gives Ran (ranOn k op) m
+    run_tick : (o : Offer) → due k o ≡ Nothing → tick_of k p m o ≡ gives Ran (ran_on k op) m
     unfolding enters_or_steps stepped with_inhibit
     run_tick o d = undue_tick k p m o b d ∙ rw (ne_eqb k.pc 65535 (omega arith)) (stepped_listed op k m b there l)
 
     abbrev RunsIn : Tick → Type 0
     RunsIn t = Runs (avr p) (record { core = k; bytes = m }) (state_of t) (does_of k.chip op (kept_of k)) (waits_of k.chip op)
 
-    runs : RunsIn (gives Ran (ranOn k op) m)
+    runs : RunsIn (gives Ran (ran_on k op) m)
     unfolding with_regs with_busy with_pc with_inhibit
     runs = record { kept' = refl; sp' = refl; pc' = omega arith; busy' = refl; service' = refl; bytes' = refl }
 
@@ -125,18 +125,18 @@ module _ (p : List ℕ) where
     run_free : (o : Offer) → 16 ≤ number (tick_of k p m o) → enters_in (tick_of k p m o) ≡ false → RunsIn (tick_of k p m o)
     run_free o a e = rw (run_tick o (calm_due k p m o b a e)) runs
 
-    calm_tick : tick_of k p m Nothing ≡ gives Ran (ranOn k op) m
+    calm_tick : tick_of k p m Nothing ≡ gives Ran (ran_on k op) m
     calm_tick = run_tick Nothing (none_due k)
 
   -- ---- nothing due: nothing enters
   -- what the instruction at PC answers
-  abbrev doneBy : Core → List ℕ → Done
-  doneBy k m = (executed decode_of (onward k) (opAt decode_of p k.pc) p m).done
+  abbrev done_by : Core → List ℕ → Done
+  done_by k m = (executed decode_of (onward k) (op_at decode_of p k.pc) p m).done
 
   none_enters : (o : Offer) (s : State) → due s.core o ≡ Nothing → enters_in (tick_at p o s) ≡ false
   none_enters o s h =
-      every-tick decode_of (λ t. enters_in t ≡ false) s.core p s.bytes o (λ n g l. ne_eqb n 17 (omega arith)) (λ g l. refl)
-      (λ b v e r. let z : Vector v ≡ Nothing = sym e ∙ h in cc) (λ b e l. refl) (λ b e l r. done_enters_not (doneBy s.core s.bytes))
+      every_tick decode_of (λ t. enters_in t ≡ false) s.core p s.bytes o (λ n g l. ne_eqb n 17 (omega arith)) (λ g l. refl)
+      (λ b v e r. let z : Vector v ≡ Nothing = sym e ∙ h in cc) (λ b e l. refl) (λ b e l r. done_enters_not (done_by s.core s.bytes))
 
   -- ---- an entry
   entry_stores : (k : Core) (m : List ℕ) (v : ℕ) → refusal (push_needs k m) ≡ 0
@@ -154,12 +154,12 @@ module _ (p : List ℕ) where
   enter_law o s =
       let k = s.core in
       let m = s.bytes in
-      every-tick decode_of (λ t. enters_in t ≡ true → Enters (avr p) s (state_of t)) k p m o
+      every_tick decode_of (λ t. enters_in t ≡ true → Enters (avr p) s (state_of t)) k p m o
       (λ n g l z. clash (sym z ∙ ne_eqb n 17 (omega arith)))
       (λ g l z. clash (sym z))
       (λ b v e r z. entry_stores k m v r)
       (λ b e l z. clash (sym z))
-      (λ b e l r z. clash (sym z ∙ done_enters_not (doneBy k m)))
+      (λ b e l r z. clash (sym z ∙ done_enters_not (done_by k m)))
 
   -- ---- in service
   serving_step : (op : Instruction) (c : Kind) (i : Core) (m : List ℕ) → i.busy ≡ 0 → Fact c op i p m
@@ -173,8 +173,8 @@ module _ (p : List ℕ) where
   unfolding with_busy with_inhibit with_pc with_service
   serve_law o s h =
       let k = s.core in
-      let op = opAt decode_of p (pc s) in
-      every-tick decode_of (λ t. returns_in p (pc s) t ≡ false → t.core.in_service ≡ true) k p s.bytes o
+      let op = op_at decode_of p (pc s) in
+      every_tick decode_of (λ t. returns_in p (pc s) t ≡ false → t.core.in_service ≡ true) k p s.bytes o
       (λ n g l r. h) (λ g l r. h) (λ b v e x r. refl) (λ b e l r. h)
       (λ b e l x r. serving_step op (kind_of op) (onward k) s.bytes b (fact op (onward k) p s.bytes) r ∙ h)
 
@@ -197,12 +197,12 @@ module _ (p : List ℕ) where
       let two_up : up k.sp 2 ≡ k.sp + 2 = omega arith in
       record { room = room; kept' = refl; sp' = two_up; pc' = rw (one_up, two_up); busy' = refl; inhibit' = refl; service' = refl }
 
-  reti_tick : (o : Offer) (k : Core) (m : List ℕ) → opAt decode_of p k.pc ≡ RETI → eqb (number (tick_of k p m o)) 18 ≡ true
+  reti_tick : (o : Offer) (k : Core) (m : List ℕ) → op_at decode_of p k.pc ≡ RETI → eqb (number (tick_of k p m o)) 18 ≡ true
       → Returns (avr p) (record { core = k; bytes = m }) (state_of (tick_of k p m o))
   reti_tick o k m op =
       let Back : Tick → Type 0 = λ t. Returns (avr p) (record { core = k; bytes = m }) (state_of t) in
       let Met : Instruction → Type 0 = λ op. refusal (with_fetch (fetched p k.pc op) (needs decode_of (onward k) op p m)) ≡ 0 in
-      every-tick decode_of (λ t. eqb (number t) 18 ≡ true → Back t) k p m o
+      every_tick decode_of (λ t. eqb (number t) 18 ≡ true → Back t) k p m o
       (λ n g l z. clash (sym z ∙ ne_eqb n 18 (omega arith)))
       (λ g l z. clash (sym z))
       (λ b v e x z. clash (sym z))
@@ -211,8 +211,8 @@ module _ (p : List ℕ) where
 
   pub reti_law : (o : Offer) (s : State) → returns_in p (pc s) (tick_at p o s) ≡ true → Returns (avr p) s (next p o s)
   reti_law o s h =
-      let (ran, is) = both_true (eqb (number (tick_at p o s)) 18) (is_return (kind_of (opAt decode_of p (pc s)))) h in
-      reti_tick o s.core s.bytes (kind_return (opAt decode_of p (pc s)) is) ran
+      let (ran, is) = both_true (eqb (number (tick_at p o s)) 18) (is_return (kind_of (op_at decode_of p (pc s)))) h in
+      reti_tick o s.core s.bytes (kind_return (op_at decode_of p (pc s)) is) ran
 
   -- ---- all of them, of a stretch
   cheap_under : (chip : Bool) (op : Instruction) → kind_of op ≡ register_only → leb (waits_of chip op) 1 ≡ true
@@ -222,9 +222,9 @@ module _ (p : List ℕ) where
   pub tick_laws : (start finish : ℕ) → Stretch p start finish → Laws (avr p) start finish
   tick_laws start finish S =
       record {
-        does = λ chip x. does_of chip (opAt decode_of p x);
-        cost = λ chip x. waits_of chip (opAt decode_of p x);
-        cheap = λ chip x a b. leb-true (waits_of chip (opAt decode_of p x)) 1 (cheap_under chip (opAt decode_of p x) (S.list x a b));
+        does = λ chip x. does_of chip (op_at decode_of p x);
+        cost = λ chip x. waits_of chip (op_at decode_of p x);
+        cheap = λ chip x a b. leb-true (waits_of chip (op_at decode_of p x)) 1 (cheap_under chip (op_at decode_of p x) (S.list x a b));
         ruled = λ o s. ticks_keep_the_rule s.core p s.bytes o;
         wait = wait_law;
         calm = λ s i.

@@ -61,14 +61,14 @@ counted waits1 e = 1
 
 module _ (enters returns : ℕ → Bool) where
   -- the place of tick j
-  unfoldable pub placeAt : ℕ → Place
-  placeAt zero = stretch
-  placeAt (suc j) = walk (placeAt j) (enters j) (returns j)
+  unfoldable pub place_at : ℕ → Place
+  place_at zero = stretch
+  place_at (suc j) = walk (place_at j) (enters j) (returns j)
 
-  abbrev pub countedAt : ℕ → ℕ
-  countedAt t = counted (placeAt t) (enters t)
+  abbrev pub counted_at : ℕ → ℕ
+  counted_at t = counted (place_at t) (enters t)
 
   -- how many of the first j ticks are handlers'
-  unfoldable pub handlerTicks : ℕ → ℕ
-  handlerTicks zero = 0
-  handlerTicks (suc j) = handlerTicks j + countedAt j
+  unfoldable pub handler_ticks : ℕ → ℕ
+  handler_ticks zero = 0
+  handler_ticks (suc j) = handler_ticks j + counted_at j

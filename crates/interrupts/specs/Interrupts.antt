@@ -23,19 +23,19 @@ use Rattle.std.specs.Prelude.{◌≡◌, ◌⊎◌, ◌↔◌, Bool, true, false
 use Rattle.instruction.specs.Decode.{decode_of}
 use Rattle.memory.specs.Memory.{has_word_of}
 use Rattle.cores.specs.declared.Core.{Core}
-use Rattle.cores.specs.Flow.{opAt}
+use Rattle.cores.specs.Flow.{op_at}
 use Rattle.tick.specs.declared.Offer.{Offer}
 use Rattle.tick.specs.declared.Offer.TheVariants.{Nothing}
 use Rattle.tick.specs.Tick.{Tick, tick_of, number_of}
 use Rattle.interrupts.specs.RegisterOnly.{register_only, kind_of, is_return}
-use Rattle.interrupts.specs.Handlers.{iterated, First, NotYet, FirstReti, OfHandler, countedAt, handlerTicks}
+use Rattle.interrupts.specs.Handlers.{iterated, First, NotYet, FirstReti, OfHandler, counted_at, handler_ticks}
 
 -- ---- the stretch
 -- the words at PC `start` and on, below `finish`, are in program and on the list
 pub record Stretch (p : List ℕ) (start finish : ℕ) : Type 0 where
   pub ends : finish ≤ 65535
   pub there : (x : ℕ) → start ≤ x → x < finish → has_word_of p x ≡ true
-  pub list : (x : ℕ) → start ≤ x → x < finish → kind_of (opAt decode_of p x) ≡ register_only
+  pub list : (x : ℕ) → start ≤ x → x < finish → kind_of (op_at decode_of p x) ≡ register_only
 
 -- ---- a run of program p: core and data, tick by tick
 pub record State : Type 0 where
@@ -94,7 +94,7 @@ module _ (p : List ℕ) (s : State) where
 
   -- tick t executes RETI: it answers ran, and RETI stands at PC
   abbrev pub returns : Offers → ℕ → Bool
-  returns v t = eqb (number_at v t) 18 && is_return (kind_of (opAt decode_of p (pc (after v t))))
+  returns v t = eqb (number_at v t) 18 && is_return (kind_of (op_at decode_of p (pc (after v t))))
 
   -- after j ticks the run is at the end of the stretch of n instructions
   abbrev pub Ended : ℕ → Offers → ℕ → Type 0
@@ -140,9 +140,9 @@ module _ (p : List ℕ) (s : State) where
     pub same_kept : kept (after v long) ≡ kept (after no_offers short)
     pub same_sp : sp (after v long) ≡ sp (after no_offers short)
     pub same_pc : pc (after v long) ≡ pc (after no_offers short)
-    pub ticks : long ≡ short + handlerTicks (enters v) (returns v) long
+    pub ticks : long ≡ short + handler_ticks (enters v) (returns v) long
     -- what is counted is the handlers' ticks
-    pub counts : (t : ℕ) → t < long → (countedAt (enters v) (returns v) t ≡ 1) ↔ OfHandler (enters v) (returns v) t
+    pub counts : (t : ℕ) → t < long → (counted_at (enters v) (returns v) t ≡ 1) ↔ OfHandler (enters v) (returns v) t
     -- a tick that is no handler's writes no data
     pub wrote : (t : ℕ) → t < long → ¬ (OfHandler (enters v) (returns v) t) → (after v (suc t)).bytes ≡ (after v t).bytes
     pub plain_wrote : (u : ℕ) → u ≤ short → (after no_offers u).bytes ≡ s.bytes

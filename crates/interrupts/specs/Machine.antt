@@ -1,7 +1,7 @@
 -- Demand 3 for any machine that is ticked: the laws that it is shown from, and what is shown. No tick of this project is spoken of here, and nobody has to
 -- believe this file: `Interrupts` says all that is promised of `tick_of`. A tick that changes proves the laws again and nothing else.
 use Rattle.std.specs.Prelude.{◌≡◌, ◌↔◌, Bool, true, false, List, ℕ, suc, ◌+◌, ◌*◌, ◌-◌, ◌/◌, ◌%◌, ◌≤◌, ◌<◌, get_or}
-use Rattle.interrupts.specs.Handlers.{iterated, First, NotYet, FirstReti, OfHandler, countedAt, handlerTicks}
+use Rattle.interrupts.specs.Handlers.{iterated, First, NotYet, FirstReti, OfHandler, counted_at, handler_ticks}
 
 -- a machine, with the views that the demand speaks of
 pub record Machine : Type 1 where
@@ -36,11 +36,11 @@ module _ (M : Machine) where
   abbrev pub after : (ℕ → Offer) → State → ℕ → State
   after v s j = iterated (λ t. tick (v t)) s j
 
-  abbrev pub entersAt : (ℕ → Offer) → State → ℕ → Bool
-  entersAt v s t = enters (v t) (after v s t)
+  abbrev pub enters_at : (ℕ → Offer) → State → ℕ → Bool
+  enters_at v s t = enters (v t) (after v s t)
 
-  abbrev pub returnsAt : (ℕ → Offer) → State → ℕ → Bool
-  returnsAt v s t = returns (v t) (after v s t)
+  abbrev pub returns_at : (ℕ → Offer) → State → ℕ → Bool
+  returns_at v s t = returns (v t) (after v s t)
 
   -- no vector offered at any tick
   abbrev pub quiet : ℕ → Offer
@@ -63,7 +63,7 @@ module _ (M : Machine) where
 
   pub record Handled (v : ℕ → Offer) (s : State) (t : ℕ) : Type 0 where
     pub at : ℕ
-    pub reti : FirstReti (returnsAt v s) t at
+    pub reti : FirstReti (returns_at v s) t at
     pub restored : Restored v s t at
 
   pub record Transparent (v : ℕ → Offer) (s : State) (n J I : ℕ) : Type 0 where
@@ -72,9 +72,9 @@ module _ (M : Machine) where
     pub same_kept : kept (after v s J) ≡ kept (after quiet s I)
     pub same_sp : sp (after v s J) ≡ sp (after quiet s I)
     pub same_pc : pc (after v s J) ≡ pc (after quiet s I)
-    pub ticks : J ≡ I + handlerTicks (entersAt v s) (returnsAt v s) J
-    pub counts : (t : ℕ) → t < J → (countedAt (entersAt v s) (returnsAt v s) t ≡ 1) ↔ OfHandler (entersAt v s) (returnsAt v s) t
-    pub wrote : (t : ℕ) → t < J → ¬ (OfHandler (entersAt v s) (returnsAt v s) t) → bytes (after v s (suc t)) ≡ bytes (after v s t)
+    pub ticks : J ≡ I + handler_ticks (enters_at v s) (returns_at v s) J
+    pub counts : (t : ℕ) → t < J → (counted_at (enters_at v s) (returns_at v s) t ≡ 1) ↔ OfHandler (enters_at v s) (returns_at v s) t
+    pub wrote : (t : ℕ) → t < J → ¬ (OfHandler (enters_at v s) (returns_at v s) t) → bytes (after v s (suc t)) ≡ bytes (after v s t)
     pub plain_wrote : (u : ℕ) → u ≤ I → bytes (after quiet s u) ≡ bytes s
     pub plain_goes : (u : ℕ) → u < I → Plain none (after quiet s u)
     pub plain_bound : I ≤ 2 * n
@@ -148,4 +148,4 @@ module _ (M : Machine) where
     pub n : ℕ
     pub laws : Laws (pc s) (pc s + n)
     pub allowed : (t : ℕ) → NotYet (Ended v s n) t → Allowed (v t) (after v s t)
-    pub handled : (t : ℕ) → NotYet (Ended v s n) t → entersAt v s t ≡ true → Handled v s t
+    pub handled : (t : ℕ) → NotYet (Ended v s n) t → enters_at v s t ≡ true → Handled v s t

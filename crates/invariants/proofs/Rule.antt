@@ -13,13 +13,13 @@ use Rattle.instruction.specs.declared.Instruction.{Instruction}
 use Rattle.instruction.specs.declared.Instruction.TheVariants.{ADC, ADD, ADIW, AND, ANDI, ASR, BCLR, BLD, BRBC, BRBS, BREAK, BSET, BST, CALL, CBI, COM, CP, CPC, CPI, CPSE, DEC, EOR, FMUL, FMULS, FMULSU, ICALL, IJMP, IN, INC, JMP, LDX, LDXinc, LDXdec, LDYinc, LDYdec, LDZinc, LDZdec, LDDY, LDDZ, LDI, LDS, LPM, LPMZ, LPMZinc, LSL, LSR, MOV, MOVW, MUL, MULS, MULSU, NEG, NOP, OR, ORI, OUT, POP, PUSH, RCALL, RET, RETI, RJMP, ROR, SBC, SBCI, SBI, SBIC, SBIS, SBIW, SBRC, SBRS, SLEEP, STX, STXdec, STXinc, STYdec, STYinc, STZdec, STZinc, STDY, STDZ, STS, SUB, SUBI, SWAP, WDR, UNDEF}
 use Rattle.cores.specs.declared.Core.{Core}
 use Rattle.cores.specs.State.{Out, out, flag, with_reg, with_pc, with_sp, with_busy, with_inhibit, with_service, with_chip}
-use Rattle.cores.specs.Flow.{brbx_of, skipped, over_second, opAt}
+use Rattle.cores.specs.Flow.{brbx_of, skipped, over_second, op_at}
 use Rattle.cores.specs.Transfer.{data_of, set_data_of, word_if}
 use Rattle.execute.specs.Needs.{refusal, push_needs, needs, fetched, with_fetch}
 use Rattle.execute.specs.Execute.{Executed, ran, ran_out, executed}
 use Rattle.tick.specs.declared.Offer.{Offer}
 use Rattle.tick.specs.declared.Offer.TheVariants.{Vector, Nothing}
-use Rattle.tick.proofs.Steps.{onward, every-tick}
+use Rattle.tick.proofs.Steps.{onward, every_tick}
 use Rattle.tick.specs.Tick.{Tick, due, stepped, enters_or_steps, ticked}
 use Rattle.invariants.proofs.Controls.{instructions_keep_the_rule}
 use Rattle.invariants.specs.Rule.{TicksKeepTheRule, asks_the_rule, under, RulesDifferWhereAsked}
@@ -161,12 +161,12 @@ module _ (decode : ℕ → ℕ → Instruction) (k : Core) (on : Bool) (p m : Li
 pub ticks_keep_the_rule : TicksKeepTheRule
 unfolding with_pc with_sp with_busy with_inhibit with_service
 ticks_keep_the_rule k p m o =
-    every-tick decode_of (λ t. t.core.chip ≡ k.chip) k p m o
+    every_tick decode_of (λ t. t.core.chip ≡ k.chip) k p m o
     (λ n g l. refl)
     (λ g l. refl)
     (λ z v d l. refl)
     (λ z d l. refl)
-    λ z d l r. instructions_keep_the_rule decode_of (opAt decode_of p k.pc) (onward k) p m
+    λ z d l r. instructions_keep_the_rule decode_of (op_at decode_of p k.pc) (onward k) p m
 
 -- ---- a tick
 tick_pick : (b on : Bool) (t u w : Tick) → w ≡ under on u → pick b (under on t) w ≡ under on (pick b t u)
@@ -177,16 +177,16 @@ module _ (k : Core) (p m : List ℕ) (on : Bool) where
   abbrev j : Core
   j = with_chip k on
 
-  step_alike : asks_the_rule (opAt decode_of p k.pc) ≡ false → stepped decode_of j (with_inhibit j false) p m ≡ under on (stepped decode_of k (with_inhibit k false) p m)
+  step_alike : asks_the_rule (op_at decode_of p k.pc) ≡ false → stepped decode_of j (with_inhibit j false) p m ≡ under on (stepped decode_of k (with_inhibit k false) p m)
   unfolding stepped with_inhibit with_pc with_chip
   step_alike n =
-      let op = opAt decode_of p k.pc in
+      let op = op_at decode_of p k.pc in
       let i = onward k in
       let (e, f) = subst (λ asks. Alike decode_of i on p m asks op) n (alike decode_of i on p m op) in
       let needed = with_fetch (fetched p k.pc op) (needs decode_of i op p m) in
       rw (e, f) (tick_pick (eqb (refusal needed) 0) on _ _ _ refl)
 
-  enters_alike : asks_the_rule (opAt decode_of p k.pc) ≡ false → (o : Offer) → enters_or_steps decode_of j p m o ≡ under on (enters_or_steps decode_of k p m o)
+  enters_alike : asks_the_rule (op_at decode_of p k.pc) ≡ false → (o : Offer) → enters_or_steps decode_of j p m o ≡ under on (enters_or_steps decode_of k p m o)
   unfolding enters_or_steps with_service with_busy with_pc with_sp with_inhibit with_chip
   enters_alike n (Vector v) = tick_pick (eqb (refusal (push_needs k m)) 0) on _ _ _ refl
   enters_alike n Nothing = tick_pick (eqb k.pc 65535) on _ _ _ (step_alike n)

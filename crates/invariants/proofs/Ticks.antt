@@ -16,13 +16,13 @@ use Rattle.instruction.proofs.Laws.{fields_in_range}
 use Rattle.memory.specs.Memory.{program_word_of}
 use Rattle.cores.specs.declared.Core.{Core}
 use Rattle.cores.specs.State.{with_pc, with_busy, with_inhibit, with_service, Sound}
-use Rattle.cores.specs.Flow.{word_pushed, opAt}
+use Rattle.cores.specs.Flow.{word_pushed, op_at}
 use Rattle.cores.proofs.Bounds.{program_word_lt}
 use Rattle.execute.specs.declared.Done.{Done}
 use Rattle.execute.specs.declared.Done.TheVariants as done
 use Rattle.tick.specs.Tick.{number_of, refuses, answer_of, due, entry}
 use Rattle.tick.specs.declared.Offer.{Offer}
-use Rattle.tick.proofs.Steps.{every_due, onward, performed, every-tick, refused_keeps}
+use Rattle.tick.proofs.Steps.{every_due, onward, performed, every_tick, refused_keeps}
 use Rattle.invariants.specs.Instructions.{ByteOperand, InRange}
 use Rattle.invariants.specs.Ticks.{Offered, TickNumber, TicksStayInRange, RefusedTicksChangeNothing, TicksAnswerTickNumbers, Brief, TicksLeaveBusyAtMost4}
 use Rattle.invariants.proofs.Fits.{fits_of, sound_of, fits_pc, fits_busy, fits_inhibit, fits_service}
@@ -74,9 +74,9 @@ untouched b s = record { core = s; bytes = b; same_length = refl }
 pub ticks_stay_in_range : TicksStayInRange
 ticks_stay_in_range k p m o s bp bm h =
     let pc = k.pc in
-    let op = opAt decode_of p pc in
+    let op = op_at decode_of p pc in
     let fields = fields_in_range (program_word_of p pc) (program_word_of p (pc + 1)) (program_word_lt p (pc + 1) bp) in
-    every-tick decode_of (λ t. InRange t.core t.bytes m) k p m o
+    every_tick decode_of (λ t. InRange t.core t.bytes m) k p m o
     (λ n g l. untouched bm s)
     (λ g l. untouched bm (waits_in_range k s (k.busy - 1) (omega arith)))
     (λ z v e n. enters_in_range k s m bm v (omega (arith, subst Offered e (due_offered k o h))))
@@ -101,7 +101,7 @@ done_enters_not d = ne_eqb (number_of (answer_of d)) 17 (omega (arith, done_numb
 
 pub ticks_answer_tick_numbers : TicksAnswerTickNumbers
 ticks_answer_tick_numbers k p m o =
-    every-tick decode_of (λ t. TickNumber (number_of t.answer)) k p m o
+    every_tick decode_of (λ t. TickNumber (number_of t.answer)) k p m o
     (λ n g l. inl (omega arith))
     (λ g l. inr (omega arith))
     (λ z v d l. inr (omega arith))
@@ -112,9 +112,9 @@ ticks_answer_tick_numbers k p m o =
 pub ticks_leave_busy_at_most_4 : TicksLeaveBusyAtMost4
 unfolding with_pc with_busy with_inhibit with_service
 ticks_leave_busy_at_most_4 k p m o =
-    every-tick decode_of (Brief k) k p m o
+    every_tick decode_of (Brief k) k p m o
     (λ n g l x. elim x [ inl h ↦ absurd (omega arith) | inr h ↦ omega arith ])
     (λ g l x. omega arith)
     (λ z v d l x. omega arith)
     (λ z d l x. omega arith)
-    λ z d l r x. instructions_wait_at_most_3 decode_of (opAt decode_of p k.pc) (onward k) p m 4 (omega arith) (omega arith)
+    λ z d l r x. instructions_wait_at_most_3 decode_of (op_at decode_of p k.pc) (onward k) p m 4 (omega arith) (omega arith)

@@ -8,7 +8,7 @@ use Rattle.instruction.specs.declared.Instruction.TheVariants.{ADIW}
 use Rattle.rule.specs.Rule.{load_waits, store_waits}
 use Rattle.cores.specs.declared.Core.{Core}
 use Rattle.cores.specs.State.{with_chip}
-use Rattle.cores.specs.Flow.{opAt}
+use Rattle.cores.specs.Flow.{op_at}
 use Rattle.execute.specs.Execute.{executed}
 use Rattle.tick.specs.declared.Offer.{Offer}
 use Rattle.tick.specs.Tick.{Tick, gives, tick_of}
@@ -31,7 +31,7 @@ under on t = gives t.answer (with_chip t.core on) t.bytes
 -- where none of them stands at PC, a tick under one rule is the tick under the other
 abbrev pub RulesDifferWhereAsked : Type 0
 RulesDifferWhereAsked =
-    (k : Core) (p m : List ℕ) (o : Offer) (on : Bool) → asks_the_rule (opAt decode_of p k.pc) ≡ false → tick_of (with_chip k on) p m o ≡ under on (tick_of k p m o)
+    (k : Core) (p m : List ℕ) (o : Offer) (on : Bool) → asks_the_rule (op_at decode_of p k.pc) ≡ false → tick_of (with_chip k on) p m o ≡ under on (tick_of k p m o)
 
 -- ---- a pointer load and a pointer store wait as the rule has it, in every form and whatever the address, SREG's and SP's too
 abbrev pub PointersWaitByTheRule : Type 0

@@ -10,11 +10,11 @@ use Rattle.cores.specs.State.{fresh_of, with_reg, with_pc, with_sp, with_busy, w
 use Rattle.tick.specs.Tick.{stepped, enters_or_steps, ticked}
 use Rattle.run.specs.Run.{ran}
 use Rattle.schedule.specs.Schedule.{scheduled}
-use Rattle.schedule.specs.Laws.{afterBy}
+use Rattle.schedule.specs.Laws.{after_by}
 use Rattle.latency.specs.Examples.{EightIsTheFigure}
 
 pub eight_is_the_figure : EightIsTheFigure
-unfolding ticked enters_or_steps stepped ran scheduled afterBy program_word_of has_word_of decode_of mulsu_to_fmulsu_of nop_to_add_of word_immediate_of one_register_of control_of fresh_of with_reg with_pc with_sp with_busy with_inhibit with_service with_chip cznvs znvs bit put
+unfolding ticked enters_or_steps stepped ran scheduled after_by program_word_of has_word_of decode_of mulsu_to_fmulsu_of nop_to_add_of word_immediate_of one_register_of control_of fresh_of with_reg with_pc with_sp with_busy with_inhibit with_service with_chip cznvs znvs bit put
 eight_is_the_figure =
     record {
       needs_eight = record { premises_so = refl; answers_so = refl };

@@ -17,15 +17,15 @@ use Rattle.instruction.specs.declared.Instruction.TheVariants.{ADC, ADD, ADIW, A
 use Rattle.rule.specs.Rule.{load_waits, store_waits}
 use Rattle.cores.specs.declared.Core.{Core}
 use Rattle.cores.specs.State.{flag, with_reg, with_pc, with_sp, with_busy, with_inhibit, with_service}
-use Rattle.cores.specs.Flow.{opAt, brbx_of, skipped}
+use Rattle.cores.specs.Flow.{op_at, brbx_of, skipped}
 use Rattle.cores.specs.Transfer.{set_data_of, word_if}
 use Rattle.cores.proofs.Space.{store_keeps}
 use Rattle.execute.specs.Execute.{behind}
 use Rattle.tick.specs.Tick.{Tick, number_of, gives, tick_of}
 use Rattle.tick.specs.declared.Offer.{Offer}
 use Rattle.tick.specs.declared.Answer.TheVariants.{Waited}
-use Rattle.tick.proofs.Steps.{every-tick, busy_tick, onward, performed}
-use Rattle.schedule.specs.Laws.{afterBy, tick_by}
+use Rattle.tick.proofs.Steps.{every_tick, busy_tick, onward, performed}
+use Rattle.schedule.specs.Laws.{after_by, tick_by}
 use Rattle.latency.specs.Cycles.{Lasts, TicksByTheTable, takes, InstructionsRunForTheirTicks}
 
 -- ---- rows: one tick; two; more, of those that are not register-only
@@ -181,7 +181,7 @@ module _ (v : ℕ → Offer) (k : Core) (p m : List ℕ) where
 
   executes : (o : Offer) → 18 ≤ number_of (tick_of k p m o).answer → number_of (tick_of k p m o).answer ≤ 22 → Executed (tick_of k p m o)
   executes o =
-      every-tick decode_of (λ t. 18 ≤ number_of t.answer → number_of t.answer ≤ 22 → Executed t) k p m o
+      every_tick decode_of (λ t. 18 ≤ number_of t.answer → number_of t.answer ≤ 22 → Executed t) k p m o
       (λ n g l a b. absurd (omega (arith, a)))
       (λ g l a b. absurd (omega (arith, a)))
       (λ z w d l a b. absurd (omega (arith, a)))
@@ -189,12 +189,12 @@ module _ (v : ℕ → Offer) (k : Core) (p m : List ℕ) where
       λ z d l r a b. record { free = z; below = l; core = refl }
 
   -- b waits behind it
-  module _ (b : ℕ) (first : (afterBy v k p m 1).0.busy ≡ b) (low : b ≤ 3) where
-    one_wait : (j : ℕ) → j < b → (afterBy v k p m (suc j)).0.busy ≡ b - j → tick_by v k p m (suc j) ≡ gives Waited (with_busy (afterBy v k p m (suc j)).0 (b - suc j)) (afterBy v k p m (suc j)).1
-    one_wait j l e = let s = afterBy v k p m (suc j) in busy_tick s.0 p s.1 (v (suc (suc j))) (b - suc j) (omega (arith, e, l)) (omega (arith, low))
+  module _ (b : ℕ) (first : (after_by v k p m 1).0.busy ≡ b) (low : b ≤ 3) where
+    one_wait : (j : ℕ) → j < b → (after_by v k p m (suc j)).0.busy ≡ b - j → tick_by v k p m (suc j) ≡ gives Waited (with_busy (after_by v k p m (suc j)).0 (b - suc j)) (after_by v k p m (suc j)).1
+    one_wait j l e = let s = after_by v k p m (suc j) in busy_tick s.0 p s.1 (v (suc (suc j))) (b - suc j) (omega (arith, e, l)) (omega (arith, low))
 
-    falls : (j : ℕ) → j ≤ b → (afterBy v k p m (suc j)).0.busy ≡ b - j
-    unfolding afterBy with_busy
+    falls : (j : ℕ) → j ≤ b → (after_by v k p m (suc j)).0.busy ≡ b - j
+    unfolding after_by with_busy
     falls zero l = omega (arith, first)
     falls (suc j) l = ap (λ (t : Tick). t.core.busy) (one_wait j l (falls j (omega (arith, l))))
 
@@ -207,13 +207,13 @@ module _ (v : ℕ → Offer) (k : Core) (p m : List ℕ) where
   onward_is below = rw (ne_eqb k.pc 65535 below)
 
 pub instructions_run_for_their_ticks : InstructionsRunForTheirTicks
-unfolding afterBy with_pc with_inhibit
+unfolding after_by with_pc with_inhibit
 instructions_run_for_their_ticks v k p m x =
     let does = executes v k p m (v 1) x.least x.most in
-    let op = opAt decode_of p k.pc in
+    let op = op_at decode_of p k.pc in
     let b = (performed decode_of k p m).core.busy in
     let lasts = ticks_by_the_table decode_of op (onward k) p m does.free in
-    let first : (afterBy v k p m 1).0.busy ≡ b = ap (λ (j : Core). j.busy) does.core in
+    let first : (after_by v k p m 1).0.busy ≡ b = ap (λ (j : Core). j.busy) does.core in
     let low : b ≤ 3 = omega (arith, lasts.exactly, lasts.four) in (
       suc b,
       record {

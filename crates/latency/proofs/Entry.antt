@@ -18,12 +18,12 @@ use Rattle.instruction.specs.declared.Instruction.{Instruction}
 use Rattle.instruction.specs.declared.Instruction.TheVariants.{RETI}
 use Rattle.cores.specs.declared.Core.{Core}
 use Rattle.cores.specs.State.{flag}
-use Rattle.cores.specs.Flow.{opAt}
+use Rattle.cores.specs.Flow.{op_at}
 use Rattle.tick.specs.Tick.{number_of, refuses, stops}
 use Rattle.tick.specs.declared.Offer.{Offer}
 use Rattle.run.specs.Lent.{offers}
-use Rattle.schedule.specs.Laws.{afterBy, tick_by, entersBy, how_many}
-use Rattle.latency.specs.Entry.{before, coreAt, runs, Waits, vectorOffered, EntryBy, EntryWithinEight, EntryBehindTheWaits}
+use Rattle.schedule.specs.Laws.{after_by, tick_by, enters_by, how_many}
+use Rattle.latency.specs.Entry.{before, core_at, runs, Waits, vector_offered, EntryBy, EntryWithinEight, EntryBehindTheWaits}
 use Rattle.latency.proofs.Ticks.{enters, away, Stands, Allowed, one_tick}
 
 -- ---- tests
@@ -53,7 +53,7 @@ fewer holds i (suc n) l =
 -- ---- ticks before the entry
 module _ (v : ℕ → Offer) (k : Core) (p m : List ℕ) where
   abbrev entered : ℕ → ℕ
-  entered j = how_many (entersBy v k p m) j
+  entered j = how_many (enters_by v k p m) j
 
   pub held : (n : ℕ) (holds : ℕ → Bool) → before v k p m n holds ≡ true → (j : ℕ) → j < n → entered (suc j) ≡ 0 → holds j ≡ true
   held zero holds h j l z = absurd (not-suc-le-zero l)
@@ -67,7 +67,7 @@ module _ (v : ℕ → Offer) (k : Core) (p m : List ℕ) where
   always zero holds h = refl
   always (suc n) holds h = rw (always n holds (λ j l. h j (omega (arith, l))), h n (omega arith)) (or_true (ltb 0 (entered (suc n))))
 
-  module _ (w : Waits v k p m) (o : vectorOffered v k p m ≡ true) where
+  module _ (w : Waits v k p m) (o : vector_offered v k p m ≡ true) where
     -- a tick before the entry ends no run
     ends_not : (j : ℕ) → j < 8 → entered (suc j) ≡ 0 → (refuses (tick_by v k p m j).answer ≡ false) × (stops (tick_by v k p m j).answer ≡ false)
     ends_not j l z =
@@ -77,21 +77,21 @@ module _ (v : ℕ → Offer) (k : Core) (p m : List ℕ) where
 
     pub goes_before : (behind : ℕ) → behind < 8 → entered behind ≡ 0 → (j : ℕ) → j < behind → (refuses (tick_by v k p m j).answer ≡ false) × (stops (tick_by v k p m j).answer ≡ false)
     goes_before behind l z j g =
-        let none : entered (suc j) ≡ 0 = omega (arith, fewer (entersBy v k p m) (suc j) behind g, z) in ends_not j (omega (arith, l, g)) none
+        let none : entered (suc j) ≡ 0 = omega (arith, fewer (enters_by v k p m) (suc j) behind g, z) in ends_not j (omega (arith, l, g)) none
 
     -- what is assumed of it
-    allowed : (j : ℕ) → j < 8 → entered (suc j) ≡ 0 → (coreAt v k p m j).chip ≡ k.chip → Allowed (coreAt v k p m j) p (v (suc j)) (tick_by v k p m j)
+    allowed : (j : ℕ) → j < 8 → entered (suc j) ≡ 0 → (core_at v k p m j).chip ≡ k.chip → Allowed (core_at v k p m j) p (v (suc j)) (tick_by v k p m j)
     allowed j l z c =
         let n = number_of (tick_by v k p m j).answer in
-        let op = opAt decode_of p (coreAt v k p m j).pc in
+        let op = op_at decode_of p (core_at v k p m j).pc in
         let executes : 18 ≤ n → n ≤ 22 → (which : Instruction → Bool) → (leb 18 n && leb n 22 && which op) ≡ which op =
         λ g h which. rw (le-leb 18 n g, le-leb n 22 h) in
         record {
           offered = held 8 (λ i. offers (v (suc i))) o j l z;
-          enabled = held 8 (λ i. flag (coreAt v k p m i) 7) w.enabled j l z;
+          enabled = held 8 (λ i. flag (core_at v k p m i) 7) w.enabled j l z;
           goes = ends_not j l z;
           no_reti = λ g h. sym (executes g h (one_of (RETI ∷ []))) ∙ not_true (runs v k p m (one_of (RETI ∷ [])) j) (held 8 (λ i. not (runs v k p m (one_of (RETI ∷ [])) i)) w.no_reti j l z);
-          no_sei = λ g h. sei k.chip (is_sei op) (coreAt v k p m j).chip c (ap (λ (b : Bool). k.chip && b) (sym (executes g h is_sei)) ∙ not_true (k.chip && runs v k p m is_sei j) (held 8 (λ i. not (k.chip && runs v k p m is_sei i)) w.no_sei j l z));
+          no_sei = λ g h. sei k.chip (is_sei op) (core_at v k p m j).chip c (ap (λ (b : Bool). k.chip && b) (sym (executes g h is_sei)) ∙ not_true (k.chip && runs v k p m is_sei j) (held 8 (λ i. not (k.chip && runs v k p m is_sei i)) w.no_sei j l z));
         }
       where
         sei : (chip is there : Bool) → there ≡ chip → (chip && is) ≡ false → (is && there) ≡ false
@@ -100,16 +100,16 @@ module _ (v : ℕ → Offer) (k : Core) (p m : List ℕ) where
         sei false true there e h = e
         sei false false there e h = refl
 
-    search : (n j : ℕ) → j + n ≤ 8 → away (coreAt v k p m j) < n → Stands k.chip (coreAt v k p m j) → entered j ≡ 0 → EntryBy v k p m (j + n)
-    unfolding afterBy
+    search : (n j : ℕ) → j + n ≤ 8 → away (core_at v k p m j) < n → Stands k.chip (core_at v k p m j) → entered j ≡ 0 → EntryBy v k p m (j + n)
+    unfolding after_by
     search zero j l a s z = absurd (not-suc-le-zero a)
     search (suc n) j l a s z =
-        let at = coreAt v k p m j in
+        let at = core_at v k p m j in
         let t = tick_by v k p m j in
         test (eqb (number_of t.answer) 17)
-        (λ e. record { behind = j; in_time = omega (arith, l); answer = (enters at p (afterBy v k p m j).1 (v (suc j)) e).answer; first = z })
+        (λ e. record { behind = j; in_time = omega (arith, l); answer = (enters at p (after_by v k p m j).1 (v (suc j)) e).answer; first = z })
         (λ e. let none : entered (suc j) ≡ 0 = rw e (omega (arith, z)) in
-        elim (one_tick k.chip at p (afterBy v k p m j).1 (v (suc j)) s (allowed j (omega (arith, l)) none s.rule)) [
+        elim (one_tick k.chip at p (after_by v k p m j).1 (v (suc j)) s (allowed j (omega (arith, l)) none s.rule)) [
           | inl y ↦ clash (sym (ap (λ a. eqb (number_of a) 17) y) ∙ e)
           | inr y ↦ let more : suc j + n ≡ j + suc n = omega arith in
               subst (λ (f : ℕ). EntryBy v k p m f) more (search n (suc j) (omega (arith, l)) (omega (arith, a, y.nearer)) y.stands none)
@@ -119,7 +119,7 @@ module _ (v : ℕ → Offer) (k : Core) (p m : List ℕ) where
     start = record { brief = leb-true k.busy 3 w.brief; outside = not_true k.in_service w.outside; rule = refl }
 
     pub behind_the_waits : EntryBy v k p m (1 + k.busy + pick k.inhibit 4 0)
-    unfolding afterBy
+    unfolding after_by
     behind_the_waits =
         let e = search (suc (away k)) 0 (omega (arith, start.brief, four_or_none k.inhibit)) (omega arith) start refl in
         record { behind = e.behind; in_time = omega (arith, e.in_time); answer = e.answer; first = e.first }

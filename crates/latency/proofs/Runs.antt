@@ -19,29 +19,29 @@ use Rattle.run.specs.Run.{Run, ran, run_of, after_ticks, tick_after, goes_on}
 use Rattle.run.specs.Lent.{offers}
 use Rattle.run.proofs.Ticks.{runs_are_ticks}
 use Rattle.run.proofs.Unroll.{step}
-use Rattle.schedule.specs.Laws.{afterBy, tick_by}
+use Rattle.schedule.specs.Laws.{after_by, tick_by}
 use Rattle.latency.specs.Entry.{RunsEnterWithinEight}
 use Rattle.latency.proofs.Ticks.{enters}
 use Rattle.latency.proofs.Entry.{always, goes_before, entry_within_eight}
 
 -- ---- ticks with one offer held, numbered as a run numbers them
 module _ (p : List ℕ) (o : Offer) where
-  abbrev one-offer : ℕ → Offer
-  one-offer tick = o
+  abbrev one_offer : ℕ → Offer
+  one_offer tick = o
 
   -- behind a first tick
-  shifted : (j : ℕ) (k : Core) (m : List ℕ) → let t = tick_of k p m o in afterBy one-offer t.core p t.bytes j ≡ afterBy one-offer k p m (suc j)
-  unfolding afterBy
+  shifted : (j : ℕ) (k : Core) (m : List ℕ) → let t = tick_of k p m o in after_by one_offer t.core p t.bytes j ≡ after_by one_offer k p m (suc j)
+  unfolding after_by
   shifted zero k m = refl
   shifted (suc j) k m = ap (λ (s : Core × List ℕ). let t = tick_of s.0 p s.1 o in (t.core, t.bytes)) (shifted j k m)
 
-  same_after : (j : ℕ) (k : Core) (m : List ℕ) → after_ticks j k p m o ≡ afterBy one-offer k p m j
-  unfolding afterBy
+  same_after : (j : ℕ) (k : Core) (m : List ℕ) → after_ticks j k p m o ≡ after_by one_offer k p m j
+  unfolding after_by
   same_after zero k m = refl
   same_after (suc j) k m = let t = tick_of k p m o in same_after j t.core t.bytes ∙ shifted j k m
 
-  same_tick : (j : ℕ) (k : Core) (m : List ℕ) → tick_after j k p m o ≡ tick_by one-offer k p m j
-  unfolding afterBy
+  same_tick : (j : ℕ) (k : Core) (m : List ℕ) → tick_after j k p m o ≡ tick_by one_offer k p m j
+  unfolding after_by
   same_tick zero k m = refl
   same_tick (suc j) k m = let t = tick_of k p m o in same_tick j t.core t.bytes ∙ ap (λ (s : Core × List ℕ). tick_of s.0 p s.1 o) (shifted j k m)
 
@@ -93,14 +93,14 @@ counts (suc b) k p m o h =
 
 -- ---- in a run
 pub runs_enter_within_eight : RunsEnterWithinEight
-unfolding afterBy
+unfolding after_by
 runs_enter_within_eight b room k p m vector w =
     let o = Vector vector in
-    let v = one-offer p o in
+    let v = one_offer p o in
     let offered = always v k p m 8 (λ j. offers (v (suc j))) (λ j l. refl) in
     let e = entry_within_eight v k p m w offered in
     let at = e.behind in
-    let core = afterBy v k p m at in
+    let core = after_by v k p m at in
     let does = enters core.0 p core.1 o (ap (λ a. eqb (number_of a) 17) e.answer) in
     let r = run_of b k p m o in
     let ends = (runs_are_ticks b k p m o).1 in

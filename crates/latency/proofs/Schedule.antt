@@ -18,10 +18,10 @@ use Rattle.tick.specs.declared.Offer.{Offer}
 use Rattle.tick.specs.declared.Answer.TheVariants.{Entered}
 use Rattle.run.specs.Lent.{offers}
 use Rattle.schedule.specs.Schedule.{record_at, records_from}
-use Rattle.schedule.specs.Laws.{afterBy, tick_by, offered_at, x, number_at}
+use Rattle.schedule.specs.Laws.{after_by, tick_by, offered_at, x, number_at}
 use Rattle.schedule.specs.Laws as laws
 use Rattle.schedule.proofs.Laws.{schedules_are_ticks}
-use Rattle.latency.specs.Entry.{offersThere, there, Waiting, ScheduleEntersWithinEight, AtMostSevenLate}
+use Rattle.latency.specs.Entry.{offers_there, there, Waiting, ScheduleEntersWithinEight, AtMostSevenLate}
 use Rattle.latency.proofs.Entry.{always, goes_before, entry_within_eight}
 use Rattle.latency.proofs.Runs.{Ends, counted}
 
@@ -51,27 +51,27 @@ some_offered l from (suc many) e tick (suc i) g d u =
 
 -- ---- the ticks from `at` on are ticks of the whole
 module _ (v : ℕ → Offer) (k : Core) (p m : List ℕ) (at : ℕ) where
-  abbrev from-there : ℕ → Offer
-  from-there tick = v (at + tick)
+  abbrev from_there : ℕ → Offer
+  from_there tick = v (at + tick)
 
   abbrev core : Core
-  core = (afterBy v k p m at).0
+  core = (after_by v k p m at).0
 
   abbrev bytes : List ℕ
-  bytes = (afterBy v k p m at).1
+  bytes = (after_by v k p m at).1
 
-  same_after : (j : ℕ) → afterBy from-there core p bytes j ≡ afterBy v k p m (at + j)
-  unfolding afterBy
-  same_after zero = let same : at + 0 ≡ at = add-zero at in ap (λ (n : ℕ). afterBy v k p m n) (sym same)
+  same_after : (j : ℕ) → after_by from_there core p bytes j ≡ after_by v k p m (at + j)
+  unfolding after_by
+  same_after zero = let same : at + 0 ≡ at = add-zero at in ap (λ (n : ℕ). after_by v k p m n) (sym same)
   same_after (suc j) =
       let same : at + suc j ≡ suc (at + j) = omega arith in
       ap (λ (s : Core × List ℕ). let t = tick_of s.0 p s.1 (v (at + suc j)) in (t.core, t.bytes)) (same_after j)
-      ∙ ap (λ (n : ℕ). let s = afterBy v k p m (at + j) in let t = tick_of s.0 p s.1 (v n) in (t.core, t.bytes)) same ∙ ap (λ (n : ℕ). afterBy v k p m n) (sym same)
+      ∙ ap (λ (n : ℕ). let s = after_by v k p m (at + j) in let t = tick_of s.0 p s.1 (v n) in (t.core, t.bytes)) same ∙ ap (λ (n : ℕ). after_by v k p m n) (sym same)
 
-  same_tick : (j : ℕ) → tick_by from-there core p bytes j ≡ tick_by v k p m (at + j)
+  same_tick : (j : ℕ) → tick_by from_there core p bytes j ≡ tick_by v k p m (at + j)
   same_tick j =
       let same : at + suc j ≡ suc (at + j) = omega arith in
-      ap (λ (s : Core × List ℕ). tick_of s.0 p s.1 (v (at + suc j))) (same_after j) ∙ ap (λ (n : ℕ). let s = afterBy v k p m (at + j) in tick_of s.0 p s.1 (v n)) same
+      ap (λ (s : Core × List ℕ). tick_of s.0 p s.1 (v (at + suc j))) (same_after j) ∙ ap (λ (n : ℕ). let s = after_by v k p m (at + j) in tick_of s.0 p s.1 (v n)) same
 
 -- ---- the record is entered in time: if it were not, a vector would be offered at each of the eight ticks, and the entry that then comes is its own or a later one's
 module _ (b : ℕ) (k : Core) (p m l : List ℕ) (at i : ℕ) (w : Waiting b k p m l at i) where
@@ -81,10 +81,10 @@ module _ (b : ℕ) (k : Core) (p m l : List ℕ) (at i : ℕ) (w : Waiting b k p
   abbrev number : ℕ → ℕ
   number = number_at b k p m l
 
-  abbrev run-count : ℕ
-  run-count = (x b k p m l).run.count
+  abbrev run_count : ℕ
+  run_count = (x b k p m l).run.count
 
-  ends : Ends v k p m b run-count
+  ends : Ends v k p m b run_count
   ends =
       elim (schedules_are_ticks b k p m l w.rises).ends [
         | inl z ↦ inl z.count
@@ -93,7 +93,7 @@ module _ (b : ℕ) (k : Core) (p m l : List ℕ) (at i : ℕ) (w : Waiting b k p
       ]
 
   -- an entry from there on is the record's own, or comes behind it
-  not_later : (j : ℕ) → j < run-count → at ≤ j → (tick_by v k p m j).answer ≡ Entered → (0 < number i) × (number i ≤ suc j)
+  not_later : (j : ℕ) → j < run_count → at ≤ j → (tick_by v k p m j).answer ≡ Entered → (0 < number i) × (number i ≤ suc j)
   not_later j in_run from entered =
       let single = schedules_are_ticks b k p m l w.rises in
       let (which, (of_list, is)) = single.only j in_run entered in
@@ -106,7 +106,7 @@ module _ (b : ℕ) (k : Core) (p m l : List ℕ) (at i : ℕ) (w : Waiting b k p
   late_is_absurd : (number i ≡ 0) ⊎ (at + 8 < number i) → ⊥
   late_is_absurd late =
       let (k', m') = there b k p m l at in
-      let v' = offersThere b k p m l at in
+      let v' = offers_there b k p m l at in
       let due : (j : ℕ) → (record_at l (0 + i)).tick ≤ at + suc j = λ j. subst (λ (n : ℕ). (record_at l n).tick ≤ at + suc j) (sym (zero-add i)) (omega (arith, w.due)) in
       let offered : (j : ℕ) → j < 8 → offers (v' (suc j)) ≡ true = λ j g.
       some_offered l 0 (length l / 5) (x b k p m l).entries (at + suc j) i w.of_list (due j) (elim late [ inl z ↦ inl z | inr z ↦ inr (omega (arith, z, g)) ]) in
@@ -116,7 +116,7 @@ module _ (b : ℕ) (k : Core) (p m l : List ℕ) (at i : ℕ) (w : Waiting b k p
       let enters_there : (tick_by v k p m (at + behind)).answer ≡ Entered = ap (λ (t : Tick). t.answer) (sym (same_tick v k p m at behind)) ∙ e.answer in
       let goes : (j : ℕ) → j < behind → (refuses (tick_by v k p m (at + j)).answer ≡ false) × (stops (tick_by v k p m (at + j)).answer ≡ false) =
       λ j g. subst (λ (t : Tick). (refuses t.answer ≡ false) × (stops t.answer ≡ false)) (same_tick v k p m at j) (goes_before v' k' p m' w.waits always_offered behind e.in_time e.first j g) in
-      let in_run = counted v k p m at behind enters_there goes b run-count (inr w.reached) (omega (arith, w.in_budget, e.in_time)) ends in
+      let in_run = counted v k p m at behind enters_there goes b run_count (inr w.reached) (omega (arith, w.in_budget, e.in_time)) ends in
       let (some, low) = not_later (at + behind) in_run (omega arith) enters_there in
       elim late [ inl z ↦ omega (arith, z, some) | inr z ↦ omega (arith, z, low, e.in_time) ]
 

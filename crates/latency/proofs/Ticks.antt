@@ -15,12 +15,12 @@ use Rattle.instruction.specs.Decode.{decode_of}
 use Rattle.instruction.specs.declared.Instruction.TheVariants.{RETI}
 use Rattle.cores.specs.declared.Core.{Core}
 use Rattle.cores.specs.State.{flag, with_pc, with_busy, with_inhibit, with_service}
-use Rattle.cores.specs.Flow.{opAt}
+use Rattle.cores.specs.Flow.{op_at}
 use Rattle.tick.specs.Tick.{Tick, number_of, refuses, stops, due, tick_of}
 use Rattle.tick.specs.declared.Offer.{Offer}
 use Rattle.tick.specs.declared.Offer.TheVariants.{Vector, Nothing}
 use Rattle.tick.specs.declared.Answer.TheVariants.{Entered}
-use Rattle.tick.proofs.Steps.{every-tick, every_due, onward, performed}
+use Rattle.tick.proofs.Steps.{every_tick, every_due, onward, performed}
 use Rattle.run.specs.Lent.{offers}
 use Rattle.invariants.proofs.Ticks.{done_number, done_enters_not}
 use Rattle.invariants.proofs.Waits.{instructions_wait_at_most_3}
@@ -35,7 +35,7 @@ pub record Enters (k : Core) (t : Tick) : Type 0 where
 pub enters : (k : Core) (p m : List ℕ) (o : Offer) → eqb (number_of (tick_of k p m o).answer) 17 ≡ true → Enters k (tick_of k p m o)
 unfolding with_service
 enters k p m o =
-    every-tick decode_of (λ t. eqb (number_of t.answer) 17 ≡ true → Enters k t) k p m o
+    every_tick decode_of (λ t. eqb (number_of t.answer) 17 ≡ true → Enters k t) k p m o
     (λ n g l e. clash (sym e ∙ ne_eqb n 17 (λ z. omega (arith, z))))
     (λ g l e. clash (sym e))
     (λ z v d l e. record { answer = refl; clear = every_due (λ w. w ≡ Vector v → k.in_service ≡ false) k o (λ c. clash (sym (ap offers c))) (λ _ s _. s) d; set = refl })
@@ -57,8 +57,8 @@ pub record Allowed (k : Core) (p : List ℕ) (o : Offer) (t : Tick) : Type 0 whe
   pub offered : offers o ≡ true
   pub enabled : flag k 7 ≡ true
   pub goes : (refuses t.answer ≡ false) × (stops t.answer ≡ false)
-  pub no_reti : 18 ≤ number_of t.answer → number_of t.answer ≤ 22 → one_of (RETI ∷ []) (opAt decode_of p k.pc) ≡ false
-  pub no_sei : 18 ≤ number_of t.answer → number_of t.answer ≤ 22 → (is_sei (opAt decode_of p k.pc) && k.chip) ≡ false
+  pub no_reti : 18 ≤ number_of t.answer → number_of t.answer ≤ 22 → one_of (RETI ∷ []) (op_at decode_of p k.pc) ≡ false
+  pub no_sei : 18 ≤ number_of t.answer → number_of t.answer ≤ 22 → (is_sei (op_at decode_of p k.pc) && k.chip) ≡ false
 
 -- it enters; or core k waits on, nearer to the entry
 pub record Nearer (chip : Bool) (k next : Core) : Type 0 where
@@ -84,11 +84,11 @@ module _ (chip : Bool) (k : Core) (p m : List ℕ) (o : Offer) (s : Stands chip 
   waited g = record { stands = record { brief = omega (arith, s.brief); outside = s.outside; rule = s.rule }; nearer = omega arith }
 
   -- an instruction ran behind inhibit: it is clear now, and the instruction's waits are three at most
-  ran : k.busy ≡ 0 → k.inhibit ≡ true → let op = opAt decode_of p k.pc in one_of (RETI ∷ []) op ≡ false → (is_sei op && k.chip) ≡ false
+  ran : k.busy ≡ 0 → k.inhibit ≡ true → let op = op_at decode_of p k.pc in one_of (RETI ∷ []) op ≡ false → (is_sei op && k.chip) ≡ false
       → Nearer chip k (performed decode_of k p m).core
   unfolding with_pc with_inhibit
   ran z i r e =
-      let op = opAt decode_of p k.pc in
+      let op = op_at decode_of p k.pc in
       let next = (performed decode_of k p m).core in
       let flags = only_reti_and_sei_touch_the_flags decode_of op (onward k) p m in
       let free : next.inhibit ≡ false = flags.0 ∙ rw (r, e) in
@@ -107,7 +107,7 @@ module _ (chip : Bool) (k : Core) (p m : List ℕ) (o : Offer) (s : Stands chip 
   pub one_tick : Result (tick_of k p m o)
   unfolding with_inhibit
   one_tick =
-      every-tick decode_of Result k p m o
+      every_tick decode_of Result k p m o
       (λ n g l a. clash a.goes.0)
       (λ g l a. inr (waited g))
       (λ z v d l a. inl refl)

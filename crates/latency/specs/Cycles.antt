@@ -10,12 +10,12 @@ use Rattle.instruction.specs.declared.Instruction.{Instruction}
 use Rattle.instruction.specs.declared.Instruction.TheVariants.{ADC, ADD, ADIW, AND, ANDI, ASR, BCLR, BLD, BRBC, BRBS, BREAK, BSET, BST, CALL, CBI, COM, CP, CPC, CPI, CPSE, DEC, EOR, FMUL, FMULS, FMULSU, ICALL, IJMP, IN, INC, JMP, LDX, LDXinc, LDXdec, LDYinc, LDYdec, LDZinc, LDZdec, LDDY, LDDZ, LDI, LDS, LPM, LPMZ, LPMZinc, LSL, LSR, MOV, MOVW, MUL, MULS, MULSU, NEG, NOP, OR, ORI, OUT, POP, PUSH, RCALL, RET, RETI, RJMP, ROR, SBC, SBCI, SBI, SBIC, SBIS, SBIW, SBRC, SBRS, SLEEP, STX, STXdec, STXinc, STYdec, STYinc, STZdec, STZinc, STDY, STDZ, STS, SUB, SUBI, SWAP, WDR, UNDEF}
 use Rattle.cores.specs.declared.Core.{Core}
 use Rattle.cores.specs.State.{reg, flag, fresh_of, with_reg, with_sreg}
-use Rattle.cores.specs.Flow.{opAt, twoAt, data_bit_is}
+use Rattle.cores.specs.Flow.{op_at, two_at, data_bit_is}
 use Rattle.execute.specs.Execute.{behind, executed}
 use Rattle.tick.specs.Tick.{number_of}
 use Rattle.tick.specs.declared.Offer.{Offer}
 use Rattle.tick.specs.declared.Answer.TheVariants.{Waited}
-use Rattle.schedule.specs.Laws.{afterBy, tick_by}
+use Rattle.schedule.specs.Laws.{after_by, tick_by}
 use Rattle.manual.specs.Switches.{the_manual, Says, undefined, sleeps, says}
 use Rattle.manual.specs.Instructions.{instruction}
 
@@ -135,7 +135,7 @@ ticks_of chip op = let r = row_at (code op).0 rows in pick chip r.chip r.source
 module _ (decode : ℕ → ℕ → Instruction) where
   -- a skip that is taken passes one word or two; PC is behind it
   abbrev pub passed : Core → Bool → List ℕ → ℕ
-  passed k taken p = pick taken (1 + one (twoAt decode k p)) 0
+  passed k taken p = pick taken (1 + one (two_at decode k p)) 0
 
   -- what is further to the row: a tick where a branch is taken, and a tick for each word that a skip passes
   abbrev pub further : Core → Instruction → List ℕ → List ℕ → ℕ
@@ -174,7 +174,7 @@ module _ (v : ℕ → Offer) (k : Core) (p m : List ℕ) where
 
   pub record Takes (n : ℕ) : Type 0 where
     pub waits : (j : ℕ) → 0 < j → j < n → (tick_by v k p m j).answer ≡ Waited
-    pub over : (afterBy v k p m n).0.busy ≡ 0
+    pub over : (after_by v k p m n).0.busy ≡ 0
 
   pub record RunsFor (op : Instruction) (n : ℕ) : Type 0 where
     pub by_the_table : n ≡ takes decode_of (behind k) op p m
@@ -184,7 +184,7 @@ module _ (v : ℕ → Offer) (k : Core) (p m : List ℕ) where
 
 abbrev pub InstructionsRunForTheirTicks : Type 0
 InstructionsRunForTheirTicks =
-    (v : ℕ → Offer) (k : Core) (p m : List ℕ) → Executes v k p m → (n : ℕ) × RunsFor v k p m (opAt decode_of p k.pc) n
+    (v : ℕ → Offer) (k : Core) (p m : List ℕ) → Executes v k p m → (n : ℕ) × RunsFor v k p m (op_at decode_of p k.pc) n
 
 -- ---- the manual's column, by its pages with every switch off
 abbrev pub cycles : Says → ℕ

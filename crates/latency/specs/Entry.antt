@@ -10,7 +10,7 @@ use Rattle.instruction.specs.declared.Instruction.{Instruction}
 use Rattle.instruction.specs.declared.Instruction.TheVariants.{RETI}
 use Rattle.cores.specs.declared.Core.{Core}
 use Rattle.cores.specs.State.{flag}
-use Rattle.cores.specs.Flow.{opAt}
+use Rattle.cores.specs.Flow.{op_at}
 use Rattle.tick.specs.Tick.{number_of, refuses, stops}
 use Rattle.tick.specs.declared.Offer.{Offer}
 use Rattle.tick.specs.declared.Offer.TheVariants.{Vector}
@@ -18,7 +18,7 @@ use Rattle.tick.specs.declared.Answer.TheVariants.{Entered}
 use Rattle.run.specs.Run.{run_of, after_ticks, tick_after, goes_on}
 use Rattle.run.specs.Lent.{offers}
 use Rattle.schedule.specs.Schedule.{record_at, records_of, rising}
-use Rattle.schedule.specs.Laws.{afterBy, tick_by, entersBy, how_many, x, number_at}
+use Rattle.schedule.specs.Laws.{after_by, tick_by, enters_by, how_many, x, number_at}
 use Rattle.schedule.specs.Laws as laws
 
 -- ---- the premises, of the first eight ticks
@@ -26,70 +26,70 @@ module _ (v : ℕ → Offer) (k : Core) (p m : List ℕ) where
   -- this holds of each of so many ticks that comes before the entry, so where no tick up to it entered
   abbrev pub before : ℕ → (ℕ → Bool) → Bool
   before zero holds = true
-  before (suc j) holds = before j holds && (ltb 0 (how_many (entersBy v k p m) (suc j)) || holds j)
+  before (suc j) holds = before j holds && (ltb 0 (how_many (enters_by v k p m) (suc j)) || holds j)
 
   -- the core before the tick behind j; the number of its answer; the instruction that it executes, if its number is one of 18 to 22
-  abbrev pub coreAt : ℕ → Core
-  coreAt j = (afterBy v k p m j).0
+  abbrev pub core_at : ℕ → Core
+  core_at j = (after_by v k p m j).0
 
   abbrev pub answer_at : ℕ → ℕ
   answer_at j = number_of (tick_by v k p m j).answer
 
   abbrev pub runs : (Instruction → Bool) → ℕ → Bool
-  runs which j = leb 18 (answer_at j) && leb (answer_at j) 22 && which (opAt decode_of p (coreAt j).pc)
+  runs which j = leb 18 (answer_at j) && leb (answer_at j) 22 && which (op_at decode_of p (core_at j).pc)
 
   -- "busy at most 3"
-  abbrev pub busyAtMost3 : Bool
-  busyAtMost3 = leb k.busy 3
+  abbrev pub busy_at_most3 : Bool
+  busy_at_most3 = leb k.busy 3
 
   -- "not in service"
-  abbrev pub notInService : Bool
-  notInService = not k.in_service
+  abbrev pub not_in_service : Bool
+  not_in_service = not k.in_service
 
   -- "a vector offered at every tick": any vectors
-  abbrev pub vectorOffered : Bool
-  vectorOffered = before 8 (λ j. offers (v (suc j)))
+  abbrev pub vector_offered : Bool
+  vector_offered = before 8 (λ j. offers (v (suc j)))
 
   -- "I set before every tick"
   abbrev pub iSet : Bool
-  iSet = before 8 (λ j. flag (coreAt j) 7)
+  iSet = before 8 (λ j. flag (core_at j) 7)
 
   -- "no tick refuses or stops"
-  abbrev pub noneEnds : Bool
-  noneEnds = before 8 (λ j. not (refuses (tick_by v k p m j).answer) && not (stops (tick_by v k p m j).answer))
+  abbrev pub none_ends : Bool
+  none_ends = before 8 (λ j. not (refuses (tick_by v k p m j).answer) && not (stops (tick_by v k p m j).answer))
 
   -- "no RETI runs meanwhile"
-  abbrev pub noReti : Bool
-  noReti = before 8 (λ j. not (runs (one_of (RETI ∷ [])) j))
+  abbrev pub has_no_reti : Bool
+  has_no_reti = before 8 (λ j. not (runs (one_of (RETI ∷ [])) j))
 
   -- "and, under the chip rule, no BSET 7 does"
-  abbrev pub noSei : Bool
-  noSei = before 8 (λ j. not (k.chip && runs is_sei j))
+  abbrev pub has_no_sei : Bool
+  has_no_sei = before 8 (λ j. not (k.chip && runs is_sei j))
 
   -- all but the offers
   pub record Waits : Type 0 where
-    pub brief : busyAtMost3 ≡ true
-    pub outside : notInService ≡ true
+    pub brief : busy_at_most3 ≡ true
+    pub outside : not_in_service ≡ true
     pub enabled : iSet ≡ true
-    pub goes_on : noneEnds ≡ true
-    pub no_reti : noReti ≡ true
-    pub no_sei : noSei ≡ true
+    pub goes_on : none_ends ≡ true
+    pub no_reti : has_no_reti ≡ true
+    pub no_sei : has_no_sei ≡ true
 
   -- ---- the entry: at tick number `behind` + 1, and at none before
   pub record EntryBy (figure : ℕ) : Type 0 where
     pub behind : ℕ
     pub in_time : suc behind ≤ figure
     pub answer : (tick_by v k p m behind).answer ≡ Entered
-    pub first : how_many (entersBy v k p m) behind ≡ 0
+    pub first : how_many (enters_by v k p m) behind ≡ 0
 
 -- "the entry comes at or before the eighth tick"
 abbrev pub EntryWithinEight : Type 0
-EntryWithinEight = (v : ℕ → Offer) (k : Core) (p m : List ℕ) → Waits v k p m → vectorOffered v k p m ≡ true → EntryBy v k p m 8
+EntryWithinEight = (v : ℕ → Offer) (k : Core) (p m : List ℕ) → Waits v k p m → vector_offered v k p m ≡ true → EntryBy v k p m 8
 
 -- more exactly: behind the waits, where inhibit is clear, and else behind one instruction more and its waits, three at most
 abbrev pub EntryBehindTheWaits : Type 0
 EntryBehindTheWaits =
-    (v : ℕ → Offer) (k : Core) (p m : List ℕ) → Waits v k p m → vectorOffered v k p m ≡ true → EntryBy v k p m (1 + k.busy + pick k.inhibit 4 0)
+    (v : ℕ → Offer) (k : Core) (p m : List ℕ) → Waits v k p m → vector_offered v k p m ≡ true → EntryBy v k p m (1 + k.busy + pick k.inhibit 4 0)
 
 -- ---- "The ticks are those that the run reports": a run with offer o held, of eight ticks or more
 module _ (b : ℕ) (k : Core) (p m : List ℕ) (o : Offer) where
@@ -112,11 +112,11 @@ RunsEnterWithinEight =
 -- ---- W5's run by a schedule, with list l, from `at` ticks done on
 module _ (b : ℕ) (k : Core) (p m l : List ℕ) (at : ℕ) where
   -- what is offered from there on; core and data there
-  abbrev pub offersThere : ℕ → Offer
-  offersThere tick = laws.offers b k p m l (at + tick)
+  abbrev pub offers_there : ℕ → Offer
+  offers_there tick = laws.offers b k p m l (at + tick)
 
   abbrev pub there : Core × List ℕ
-  there = afterBy (laws.offers b k p m l) k p m at
+  there = after_by (laws.offers b k p m l) k p m at
 
   -- record i of the list waits
   pub record Waiting (i : ℕ) : Type 0 where
@@ -129,7 +129,7 @@ module _ (b : ℕ) (k : Core) (p m l : List ℕ) (at : ℕ) where
     pub due : (record_at l i).tick ≤ suc at
     pub others : (earlier : ℕ) → earlier < i → (0 < number_at b k p m l earlier) × (number_at b k p m l earlier ≤ at)
     -- and the premises hold from there
-    pub waits : Waits offersThere there.0 p there.1
+    pub waits : Waits offers_there there.0 p there.1
 
 -- not entered yet, it is entered at one of the next eight ticks
 abbrev pub ScheduleEntersWithinEight : Type 0

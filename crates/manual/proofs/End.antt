@@ -10,7 +10,7 @@ use Rattle.basis.specs.Pick.{pick}
 use Rattle.basis.proofs.Choice.{clash}
 use Rattle.instruction.specs.Decode.{decode_of}
 use Rattle.instruction.specs.Code.{two_words}
-use Rattle.cores.specs.Flow.{opAt}
+use Rattle.cores.specs.Flow.{op_at}
 use Rattle.cores.specs.declared.Core.{Core}
 use Rattle.cores.specs.State.{Sound, with_pc, with_inhibit}
 use Rattle.execute.specs.Needs.{Needs, refusal, needs, fetched, with_fetch, push_needs}
@@ -47,7 +47,7 @@ decided_by n k m t false e h = rw e (refused_goes_on n k m)
 stepped_goes_on : (k j : Core) (p m : List ℕ) → ended (stepped decode_of k j p m) ≡ false
 unfolding stepped
 stepped_goes_on k j p m =
-    let i = opAt decode_of p j.pc in
+    let i = op_at decode_of p j.pc in
     let x = executed decode_of (with_pc j (j.pc + 1)) i p m in
     let n = with_fetch (fetched p j.pc i) (needs decode_of (with_pc j (j.pc + 1)) i p m) in
     decided_by n k m (executed_tick x) (eqb (refusal n) 0) refl (executed_goes_on x.done x.core x.bytes)

@@ -16,7 +16,7 @@ use Rattle.instruction.specs.declared.Instruction.{Instruction}
 use Rattle.instruction.specs.declared.Instruction.TheVariants.{ADC, ADD, ADIW, AND, ANDI, ASR, BCLR, BLD, BRBC, BRBS, BREAK, BSET, BST, CALL, CBI, COM, CP, CPC, CPI, CPSE, DEC, EOR, FMUL, FMULS, FMULSU, ICALL, IJMP, IN, INC, JMP, LDX, LDXinc, LDXdec, LDYinc, LDYdec, LDZinc, LDZdec, LDDY, LDDZ, LDI, LDS, LPM, LPMZ, LPMZinc, LSL, LSR, MOV, MOVW, MUL, MULS, MULSU, NEG, NOP, OR, ORI, OUT, POP, PUSH, RCALL, RET, RETI, RJMP, ROR, SBC, SBCI, SBI, SBIC, SBIS, SBIW, SBRC, SBRS, SLEEP, STX, STXdec, STXinc, STYdec, STYinc, STZdec, STZinc, STDY, STDZ, STS, SUB, SUBI, SWAP, WDR, UNDEF}
 use Rattle.cores.specs.declared.Core.{Core}
 use Rattle.cores.specs.State.{reg, with_pc}
-use Rattle.cores.specs.Flow.{twoAt, data_bit_is}
+use Rattle.cores.specs.Flow.{two_at, data_bit_is}
 use Rattle.cores.specs.Transfer.{data_of}
 use Rattle.execute.specs.Needs.{Needs, refusal, needs}
 use Rattle.execute.specs.Execute.{executed}
@@ -66,7 +66,7 @@ data_bit_false m A b e h = rw e (bit_false (get_or m A 0) b h)
 -- ---- the theorem, page by page
 module _ (k : Core) (w : Ready k) (p m : List ℕ) (mm : Bytes m) where
   pub instruction_with : (i : Instruction) → InFields i → Granted (needs decode_of (on k) i p m)
-      → instruction (base k.chip) (twoAt decode_of (on k) p) k i p m ≡ told (executed_tick (executed decode_of (on k) i p m))
+      → instruction (base k.chip) (two_at decode_of (on k) p) k i p m ≡ told (executed_tick (executed decode_of (on k) i p m))
   unfolding with_pc data_of break cbi in_ ldi mov movw nop out_ sbi sleep swap wdr
   instruction_with (ADC d r) f h = ap (λ (c : Core). ran c m) (adc_is k w d r)
   instruction_with (ADD d r) f h = ap (λ (c : Core). ran c m) (add_is k w d r)
@@ -87,7 +87,7 @@ module _ (k : Core) (w : Ready k) (p m : List ℕ) (mm : Bytes m) where
   instruction_with (CP d r) f h = ap (λ (c : Core). ran c m) (cp_is k w d r)
   instruction_with (CPC d r) f h = ap (λ (c : Core). ran c m) (cpc_is k w d r)
   instruction_with (CPI d K) f h = ap (λ (c : Core). ran c m) (cpi_is k w d K f.1)
-  instruction_with (CPSE d r) f h = ap (λ (c : Core). ran c m) (skips_is k w _ _ (twoAt decode_of (on k) p) refl)
+  instruction_with (CPSE d r) f h = ap (λ (c : Core). ran c m) (skips_is k w _ _ (two_at decode_of (on k) p) refl)
   instruction_with (DEC d) f h = ap (λ (c : Core). ran c m) (dec_is k w d)
   instruction_with (EOR d r) f h = ap (λ (c : Core). ran c m) (eor_is k w d r)
   instruction_with (FMUL d r) f h = ap (λ (c : Core). ran c m) (fmul_is k w d r)
@@ -134,11 +134,11 @@ module _ (k : Core) (w : Ready k) (p m : List ℕ) (mm : Bytes m) where
   instruction_with (SBC d r) f h = ap (λ (c : Core). ran c m) (sbc_is k w d r)
   instruction_with (SBCI d K) f h = ap (λ (c : Core). ran c m) (sbci_is k w d K f.1)
   instruction_with (SBI A b) f h = rw (next_one k w, bit_to_lem true (get_or m A 0) b (mm.byte_lt A) f.1)
-  instruction_with (SBIC A b) f h = ap (λ (c : Core). ran c m) (skips_is k w _ _ (twoAt decode_of (on k) p) (data_bit_false m A b h.bytes_there f.1))
-  instruction_with (SBIS A b) f h = ap (λ (c : Core). ran c m) (skips_is k w _ _ (twoAt decode_of (on k) p) (data_bit_true m A b h.bytes_there f.1))
+  instruction_with (SBIC A b) f h = ap (λ (c : Core). ran c m) (skips_is k w _ _ (two_at decode_of (on k) p) (data_bit_false m A b h.bytes_there f.1))
+  instruction_with (SBIS A b) f h = ap (λ (c : Core). ran c m) (skips_is k w _ _ (two_at decode_of (on k) p) (data_bit_true m A b h.bytes_there f.1))
   instruction_with (SBIW d K) f h = ap (λ (c : Core). ran c m) (sbiw_is k w d K f.1)
-  instruction_with (SBRC r b) f h = ap (λ (c : Core). ran c m) (skips_is k w _ _ (twoAt decode_of (on k) p) (bit_false (reg k r) b f.1))
-  instruction_with (SBRS r b) f h = ap (λ (c : Core). ran c m) (skips_is k w _ _ (twoAt decode_of (on k) p) (bit_true (reg k r) b f.1))
+  instruction_with (SBRC r b) f h = ap (λ (c : Core). ran c m) (skips_is k w _ _ (two_at decode_of (on k) p) (bit_false (reg k r) b f.1))
+  instruction_with (SBRS r b) f h = ap (λ (c : Core). ran c m) (skips_is k w _ _ (two_at decode_of (on k) p) (bit_true (reg k r) b f.1))
   instruction_with SLEEP f h = rw (next_one k w)
   instruction_with (STX r) f h = ap ran_out (store_is k w r 26 0 m)
   instruction_with (STXdec r) f h = ap ran_out (store_dec_is k w r 26 m)

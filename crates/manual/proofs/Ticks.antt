@@ -17,7 +17,7 @@ use Rattle.instruction.specs.declared.Instruction.{Instruction}
 use Rattle.memory.specs.Memory.{program_word_of}
 use Rattle.cores.specs.declared.Core.{Core}
 use Rattle.cores.specs.State.{Sound, with_pc, with_inhibit}
-use Rattle.cores.specs.Flow.{twoAt, opAt}
+use Rattle.cores.specs.Flow.{two_at, op_at}
 use Rattle.cores.proofs.Bounds.{program_word_lt}
 use Rattle.execute.specs.Needs.{Needs, refusal, needs, fetched, with_fetch, push_needs}
 use Rattle.execute.specs.Execute.{executed}
@@ -58,46 +58,46 @@ of_refusals P p0 p1 p2 p3 p4 n =
 refused_executes_nothing : (n : Needs) (k : Core) (m : List ℕ) → executes (gives (Refused (refusal n)) k m) ≡ false
 refused_executes_nothing n k m = of_refusals (λ r. executes (gives (Refused r) k m) ≡ false) refl refl refl refl refl n
 
-pub opcode_is : (p : List ℕ) (i : ℕ) → Bytes p → opcode_at p i ≡ opAt decode_of p i
+pub opcode_is : (p : List ℕ) (i : ℕ) → Bytes p → opcode_at p i ≡ op_at decode_of p i
 opcode_is p i h = decodes_as_the_manual (program_word_of p i) (program_word_of p (i + 1)) (program_word_lt p i h) (program_word_lt p (i + 1) h)
 
 module _ (s : Switches) (p m : List ℕ) (pp : Bytes p) (mm : Bytes m) where
   -- ---- an instruction
-  abbrev stepNeeds : Core → Instruction → Needs
-  stepNeeds j i = with_fetch (fetched p j.pc i) (needs decode_of (on j) i p m)
+  abbrev step_needs : Core → Instruction → Needs
+  step_needs j i = with_fetch (fetched p j.pc i) (needs decode_of (on j) i p m)
 
   -- the step, and what s makes of 01's tick, by the instruction and by what is skipped
-  abbrev stepWith : Core → Core → Instruction → Instruction → Says
-  stepWith k j i next = unless (stepNeeds j i) k m (instruction s (two_words next) j i p m)
+  abbrev step_with : Core → Core → Instruction → Instruction → Says
+  step_with k j i next = unless (step_needs j i) k m (instruction s (two_words next) j i p m)
 
-  abbrev afterWith : Core → Tick → Instruction → Says
-  afterWith j t i = pick (executes t) (changed j.chip s j i (told t)) (told t)
+  abbrev after_with : Core → Tick → Instruction → Says
+  after_with j t i = pick (executes t) (changed j.chip s j i (told t)) (told t)
 
-  said : (j : Core) → Ready j → refusal (stepNeeds j (opAt decode_of p j.pc)) ≡ 0
-      → instruction s (twoAt decode_of (on j) p) j (opAt decode_of p j.pc) p m ≡ changed j.chip s j (opAt decode_of p j.pc) (told (executed_tick (executed decode_of (on j) (opAt decode_of p j.pc) p m)))
+  said : (j : Core) → Ready j → refusal (step_needs j (op_at decode_of p j.pc)) ≡ 0
+      → instruction s (two_at decode_of (on j) p) j (op_at decode_of p j.pc) p m ≡ changed j.chip s j (op_at decode_of p j.pc) (told (executed_tick (executed decode_of (on j) (op_at decode_of p j.pc) p m)))
   said j w e =
-      let i = opAt decode_of p j.pc in
-      let g = granted (stepNeeds j i) e in
+      let i = op_at decode_of p j.pc in
+      let g = granted (step_needs j i) e in
       let f = fields_in_range (program_word_of p j.pc) (program_word_of p (j.pc + 1)) (program_word_lt p (j.pc + 1) pp) in
-      instruction_changed j.chip s (twoAt decode_of (on j) p) j p m w.sound.sreg_lt w.uninhibited i
+      instruction_changed j.chip s (two_at decode_of (on j) p) j p m w.sound.sreg_lt w.uninhibited i
       ∙ ap (λ (y : Says). changed j.chip s j i y) (instruction_with j w p m mm i f (record { bytes_there = g.bytes_there }))
 
   -- refused by 01, or as said
   unless_by : (k j : Core) (i : Instruction) (n : Needs) (x : Says) (t : Tick) (g : Bool) → eqb (refusal n) 0 ≡ g → executes t ≡ true → (refusal n ≡ 0 → x ≡ changed j.chip s j i (told t))
-      → pick g x (says (Refused (refusal n)) k m) ≡ afterWith j (pick g t (gives (Refused (refusal n)) k m)) i
+      → pick g x (says (Refused (refusal n)) k m) ≡ after_with j (pick g t (gives (Refused (refusal n)) k m)) i
   unless_by k j i n x t true e f h = rw f (h (eqb-true (refusal n) 0 e))
   unless_by k j i n x t false e f h = rw (refused_executes_nothing n k m)
 
   step_is : (k j : Core) → Ready j → step s k j p m ≡ after s j p (stepped decode_of k j p m)
   unfolding step stepped with_pc
   step_is k j w =
-      let i = opAt decode_of p j.pc in
+      let i = op_at decode_of p j.pc in
       let x = executed decode_of (on j) i p m in
-      let n = stepNeeds j i in
-      ap (λ (i : Instruction). stepWith k j i (opcode_at p (j.pc + 1))) (opcode_is p j.pc pp)
-      ∙ ap (λ (n : Instruction). stepWith k j i n) (opcode_is p (j.pc + 1) pp)
-      ∙ unless_by k j i n (instruction s (twoAt decode_of (on j) p) j i p m) (executed_tick x) (eqb (refusal n) 0) refl (executed_answers x.done x.core x.bytes) (said j w)
-      ∙ ap (λ (i : Instruction). afterWith j (stepped decode_of k j p m) i) (sym (opcode_is p j.pc pp))
+      let n = step_needs j i in
+      ap (λ (i : Instruction). step_with k j i (opcode_at p (j.pc + 1))) (opcode_is p j.pc pp)
+      ∙ ap (λ (n : Instruction). step_with k j i n) (opcode_is p (j.pc + 1) pp)
+      ∙ unless_by k j i n (instruction s (two_at decode_of (on j) p) j i p m) (executed_tick x) (eqb (refusal n) 0) refl (executed_answers x.done x.core x.bytes) (said j w)
+      ∙ ap (λ (i : Instruction). after_with j (stepped decode_of k j p m) i) (sym (opcode_is p j.pc pp))
 
   -- ---- entry, the end, or an instruction
   calm : (k : Core) → Sound k → k.busy ≡ 0 → k.pc < 65535 → Ready (with_inhibit k false)

@@ -18,16 +18,16 @@ bench_sheet =
     record {
       line_1 = (refl, refl, refl);
       line_2 = refl;
-      line-2-chip = refl;
-      line-3 = (refl, refl);
+      line_2_chip = refl;
+      line_3 = (refl, refl);
       line_4 = refl;
-      line-5 = (refl, refl);
-      line-6 = (refl, refl);
-      line-7 = (refl, refl, refl);
+      line_5 = (refl, refl);
+      line_6 = (refl, refl);
+      line_7 = (refl, refl, refl);
       line_8 = refl;
-      line-9 = (refl, refl);
+      line_9 = (refl, refl);
       line_10 = refl;
-      line-11 = (refl, refl);
-      line-12 = refl;
+      line_11 = (refl, refl);
+      line_12 = refl;
       line_13 = refl;
     }

@@ -15,7 +15,7 @@ use Rattle.tick.specs.declared.Offer.{Offer}
 use Rattle.tick.specs.Tick.{Tick, number_of, tick_of}
 use Rattle.run.specs.Run.{Run}
 use Rattle.schedule.specs.Schedule.{records_of, rising}
-use Rattle.schedule.specs.Laws.{afterBy, tick_by, SpentBy, entersBy, how_many, offers}
+use Rattle.schedule.specs.Laws.{after_by, tick_by, SpentBy, enters_by, how_many, offers}
 use Rattle.schedule.specs.Laws as laws
 use Rattle.schedule.proofs.Steps.{by_number}
 use Rattle.schedule.proofs.Laws.{schedules_are_ticks, empty_list_is_a_run}
@@ -30,31 +30,31 @@ pair k m = (k, m)
 
 -- ---- the same ticks, numbered from 1 and from 0
 module _ (p : List ℕ) (s : State) (w : ℕ → Offer) where
-  abbrev from-0 : Offers
-  from-0 t = w (suc t)
+  abbrev from_0 : Offers
+  from_0 t = w (suc t)
 
-  same_after : (j : ℕ) → afterBy w s.core p s.bytes j ≡ ((after p s from-0 j).core, (after p s from-0 j).bytes)
-  unfolding afterBy iterated
+  same_after : (j : ℕ) → after_by w s.core p s.bytes j ≡ ((after p s from_0 j).core, (after p s from_0 j).bytes)
+  unfolding after_by iterated
   same_after zero = refl
   same_after (suc j) =
       ap (λ (z : Core × List ℕ). let t = tick_of z.0 p z.1 (w (suc j)) in (t.core, t.bytes)) (same_after j)
 
-  same_tick : (j : ℕ) → tick_by w s.core p s.bytes j ≡ tick_at p (from-0 j) (after p s from-0 j)
+  same_tick : (j : ℕ) → tick_by w s.core p s.bytes j ≡ tick_at p (from_0 j) (after p s from_0 j)
   same_tick j = ap (λ (z : Core × List ℕ). tick_of z.0 p z.1 (w (suc j))) (same_after j)
 
-  same_number : (j : ℕ) → number_of (tick_by w s.core p s.bytes j).answer ≡ number_at p s from-0 j
+  same_number : (j : ℕ) → number_of (tick_by w s.core p s.bytes j).answer ≡ number_at p s from_0 j
   same_number j = ap (λ (t : Tick). number_of t.answer) (same_tick j)
 
-  same_entries : (j : ℕ) → how_many (enters p s from-0) j ≡ how_many (entersBy w s.core p s.bytes) j
+  same_entries : (j : ℕ) → how_many (enters p s from_0) j ≡ how_many (enters_by w s.core p s.bytes) j
   same_entries zero = refl
-  same_entries (suc j) = ap (λ (n : ℕ). n + one (enters p s from-0 j)) (same_entries j) ∙ ap (λ (n : ℕ). how_many (entersBy w s.core p s.bytes) j + one (eqb n 17)) (sym (same_number j))
+  same_entries (suc j) = ap (λ (n : ℕ). n + one (enters p s from_0 j)) (same_entries j) ∙ ap (λ (n : ℕ). how_many (enters_by w s.core p s.bytes) j + one (eqb n 17)) (sym (same_number j))
 
 -- ---- a scheduled run that did all its ticks
 spends : (b : ℕ) (k : Core) (p m l : List ℕ) → rising 0 (records_of l) ≡ true → (laws.x b k p m l).run.answer ≡ 24 → SpentBy (offers b k p m l) k p m b (laws.x b k p m l).run
 spends b k p m l h e =
     let w = offers b k p m l in
     let told : (j : ℕ) → ((laws.x b k p m l).run.answer ≡ number_of (tick_by w k p m j).answer) → ⊥ =
-    λ j a. let at = afterBy w k p m j in clash (sym (eq-eqb (number_of (tick_by w k p m j).answer) 24 (sym a ∙ e)) ∙ (by_number at.0 p at.1 (w (suc j))).unspent) in
+    λ j a. let at = after_by w k p m j in clash (sym (eq-eqb (number_of (tick_by w k p m j).answer) 24 (sym a ∙ e)) ∙ (by_number at.0 p at.1 (w (suc j))).unspent) in
     elim (schedules_are_ticks b k p m l h).ends [
       | inl z ↦ z
       | inr (inl z) ↦ absurd (told (laws.x b k p m l).run.count z.answer)
@@ -70,11 +70,11 @@ module _ (p : List ℕ) (s : State) (l : List ℕ) (b : ℕ) (h : rising 0 (reco
   spent = spends b s.core p s.bytes l h e
 
   stands : pair (x p s l b).run.core (x p s l b).run.bytes ≡ pair (after p s (v p s l b) b).core (after p s (v p s l b) b).bytes
-  stands = (schedules_are_ticks b s.core p s.bytes l h).stands ∙ ap (λ (j : ℕ). afterBy w s.core p s.bytes j) spent.count ∙ same_after p s w b
+  stands = (schedules_are_ticks b s.core p s.bytes l h).stands ∙ ap (λ (j : ℕ). after_by w s.core p s.bytes j) spent.count ∙ same_after p s w b
 
   allowed : (t : ℕ) → t < b → 16 ≤ number_at p s (v p s l b) t
   allowed t g =
-      let at = afterBy w s.core p s.bytes t in
+      let at = after_by w s.core p s.bytes t in
       let n = number_of (tick_by w s.core p s.bytes t).answer in
       let high : 16 ≤ n = ltb-false n 16 (sym (by_number at.0 p at.1 (w (suc t))).refused ∙ (spent.before t g).0) in
       omega (arith, high, same_number p s w t)
@@ -95,10 +95,10 @@ module _ (p : List ℕ) (s : State) (short : ℕ) (goes : (u : ℕ) → u < shor
       elim (schedules_are_ticks short s.core p s.bytes [] refl).ends [
         | inl z ↦ z.answer
         | inr (inl z) ↦ let u = (x p s [] short).run.count in
-            let at = afterBy none s.core p s.bytes u in
+            let at = after_by none s.core p s.bytes u in
             let low = ltb-true (number_of (tick_by none s.core p s.bytes u).answer) 16 (sym (by_number at.0 p at.1 (none (suc u))).refused ∙ z.refused) in
             absurd (omega (arith, low, (between u z.in_budget).0))
-        | inr (inr z) ↦ let at = afterBy none s.core p s.bytes z.others in
+        | inr (inr z) ↦ let at = after_by none s.core p s.bytes z.others in
             let high = leb-true 22 (number_of (tick_by none s.core p s.bytes z.others).answer) (sym (by_number at.0 p at.1 (none (suc z.others))).ends ∙ z.stopped) in
             absurd (omega (arith, high, (between z.others z.in_budget).1))
       ]
@@ -129,7 +129,7 @@ schedules_leave_no_trace p s l n long a =
         same_pc = through (λ k. k.pc) trace.same_pc;
         plain_wrote = ap (λ (z : Core × List ℕ). z.1) plainly ∙ trace.plain_wrote short (omega arith);
         ticks = omega (arith, (spent p s l long a.rises a.spent).count, count, trace.ticks);
-        entered = same_entries p s offered long ∙ ap (λ (j : ℕ). how_many (entersBy offered s.core p s.bytes) j) (sym (spent p s l long a.rises a.spent).count)
+        entered = same_entries p s offered long ∙ ap (λ (j : ℕ). how_many (enters_by offered s.core p s.bytes) j) (sym (spent p s l long a.rises a.spent).count)
             ∙ (schedules_are_ticks long s.core p s.bytes l a.rises).as_many;
         no_trace = trace;
       },

@@ -8,7 +8,7 @@ use Rattle.tick.specs.declared.Offer.TheVariants.{Nothing}
 use Rattle.run.specs.Run.{Run, run_of}
 use Rattle.schedule.specs.Schedule.{records_of, rising, Scheduled, scheduled}
 use Rattle.schedule.specs.Laws.{how_many, offers, entered_in}
-use Rattle.interrupts.specs.Handlers.{First, FirstReti, handlerTicks}
+use Rattle.interrupts.specs.Handlers.{First, FirstReti, handler_ticks}
 use Rattle.interrupts.specs.Interrupts.{State, Offers, enters, returns, Ended, Restored, Begins, NoTrace}
 use Rattle.interrupts.specs.Stamps.{program, start}
 
@@ -43,7 +43,7 @@ module _ (p : List ℕ) (s : State) (l : List ℕ) (long : ℕ) where
     pub same_pc : x.run.core.pc ≡ (plain short).core.pc
     pub plain_wrote : (plain short).bytes ≡ s.bytes
     -- it took the handlers' ticks more; as many ticks enter, each a handler, as records were entered
-    pub ticks : x.run.count ≡ (plain short).count + handlerTicks (enters p s v) (returns p s v) long
+    pub ticks : x.run.count ≡ (plain short).count + handler_ticks (enters p s v) (returns p s v) long
     pub entered : how_many (enters p s v) long ≡ entered_in x.entries
     -- and whatever else demand 3 says of the two
     pub no_trace : NoTrace p s n v long short

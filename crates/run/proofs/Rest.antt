@@ -12,7 +12,7 @@ use Rattle.forms.specs.Instructions.{instructions, by_form, instruction_of}
 use Rattle.forms.proofs.Alone.{form_alone}
 use Rattle.forms.proofs.Fit.{fields_fit}
 use Rattle.memory.specs.Memory.{has_word_of}
-use Rattle.cores.specs.Flow.{twoAt}
+use Rattle.cores.specs.Flow.{two_at}
 use Rattle.cores.specs.State.{with_regs, with_pc, with_sp, with_busy, with_inhibit, with_service, with_chip}
 use Rattle.execute.specs.Needs.{Needs}
 use Rattle.execute.specs.Execute.{done_of}
@@ -33,7 +33,7 @@ told f w x e = ap (λ g. instruction_of g w x) (e ∙ sym (form_alone w x)) ∙ 
 module _ (rs : List ℕ) (pc sp : ℕ) (p m : List ℕ) (low : pc < 65534) (word : has_word_of p pc ≡ true) where
   -- whether the word behind PC begins an instruction of two
   abbrev two : Bool
-  two = twoAt decode_of (cored rs (stood pc 0 0 0 false false) false) p
+  two = two_at decode_of (cored rs (stood pc 0 0 0 false false) false) p
 
   over : (i : Instruction) (taken : Bool) (runs : done_of i ≡ done.Ran)
       → NeedsOf rs pc sp p m i runs (record { program = pick taken (has_word_of p pc) true; room = pick taken (ltb (pc + one two) 65535) true; stack = true; bytes = true })

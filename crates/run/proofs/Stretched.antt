@@ -101,21 +101,21 @@ rest_done b at k p m o e =
 
 -- what a stretch leaves, by what `go` gave and what is left in the snapshot
 module _ (s p m : List ℕ) (on : Bool) (at b : ℕ) (g : Gone) (rs m' : List ℕ) where
-  abbrev pub wentIn : Type 0
-  wentIn = Goes (begins s) (at + get_or s 37 0 / 32) p m on (flag_at s 4) b g rs m'
+  abbrev pub went_in : Type 0
+  went_in = Goes (begins s) (at + get_or s 37 0 / 32) p m on (flag_at s 4) b g rs m'
 
   -- the bytes left
-  abbrev pub leftIn : List ℕ
-  leftIn = take 32 (rs ++ drop 32 s) ++ six g.sreg g.pc g.sp ((g.at - b) * 32 + (one g.inhibit * 16 + one g.in_service * 8 + one (flag_at s 4) * 4))
+  abbrev pub left_in : List ℕ
+  left_in = take 32 (rs ++ drop 32 s) ++ six g.sreg g.pc g.sp ((g.at - b) * 32 + (one g.inhibit * 16 + one g.in_service * 8 + one (flag_at s 4) * 4))
 
-  module _ (h : (read_of s).refusal ≡ 0) (l : at < b) (w : wentIn) (n : length rs ≡ 32) (f : Bytes rs) (x : g.sreg < 256) (y : g.pc < 65536) (z : g.sp < 65536) where
+  module _ (h : (read_of s).refusal ≡ 0) (l : at < b) (w : went_in) (n : length rs ≡ 32) (f : Bytes rs) (x : g.sreg < 256) (y : g.pc < 65536) (z : g.sp < 65536) where
     abbrev waiting : Core
     waiting = leaves rs s g.sreg g.pc g.sp (g.at - b) g.inhibit g.in_service (flag_at s 4)
 
     pub bounded : g.at ≤ b + 4
     bounded = w.bounded (omega (arith, brief s h))
 
-    left_read : read_of leftIn ≡ record { refusal = 0; core = waiting }
+    left_read : read_of left_in ≡ record { refusal = 0; core = waiting }
     left_read =
         ap read_of (left_bytes rs s g.sreg g.pc g.sp (g.at - b) g.inhibit g.in_service (flag_at s 4) n)
         ∙ read_back waiting
@@ -156,7 +156,7 @@ module _ (s p m : List ℕ) (on : Bool) (at b : ℕ) (g : Gone) (rs m' : List �
               )
         ]
 
-    pub stretched : {done : ℕ} {s' : List ℕ} → done ≡ pick (ltb g.at b) g.at b → s' ≡ leftIn → Stretches s p m on at b done s' m'
+    pub stretched : {done : ℕ} {s' : List ℕ} → done ≡ pick (ltb g.at b) g.at b → s' ≡ left_in → Stretches s p m on at b done s' m'
     stretched {done} {s'} d e =
         let read : read_of s' ≡ record { refusal = 0; core = waiting } = ap read_of e ∙ left_read in
         let between : (at ≤ done) × (done ≤ b) =

@@ -9,7 +9,7 @@ use Rattle.instruction.specs.Decode.{decode_of}
 use Rattle.execute.specs.declared.Done.{Done}
 use Rattle.execute.specs.declared.Done.TheVariants as done
 use Rattle.tick.specs.Tick.{Tick, number_of, refuses, stops, answer_of, tick_of}
-use Rattle.tick.proofs.Steps.{every-tick, performed}
+use Rattle.tick.proofs.Steps.{every_tick, performed}
 use Rattle.tick.specs.declared.Offer.{Offer}
 use Rattle.tick.specs.declared.Answer.{Answer}
 use Rattle.tick.specs.declared.Answer.TheVariants.{Ran}
@@ -78,7 +78,7 @@ kept_done done.Break = refl
 
 ended_kept : (k : Core) (p m : List ℕ) (o : Offer) → ended_by (number_of (tick_of k p m o).answer) ≡ kept (tick_of k p m o).answer
 ended_kept k p m o =
-    every-tick decode_of (λ t. ended_by (number_of t.answer) ≡ kept t.answer) k p m o
+    every_tick decode_of (λ t. ended_by (number_of t.answer) ≡ kept t.answer) k p m o
     (λ n g l. rw (lt-ltb n 16 (omega arith)))
     (λ g l. refl)
     (λ z v d l. refl)

@@ -23,7 +23,7 @@ use Rattle.tick.specs.declared.Offer.{Offer}
 use Rattle.tick.specs.declared.Offer.TheVariants.{Vector, Nothing}
 use Rattle.tick.specs.declared.Answer.TheVariants.{Ran}
 use Rattle.tick.specs.Tick.{gives, decided, due, executed_tick, stepped, enters_or_steps, ticked, tick_of, number_of}
-use Rattle.tick.proofs.Steps.{free_tick, onward, performed, every-tick}
+use Rattle.tick.proofs.Steps.{free_tick, onward, performed, every_tick}
 use Rattle.invariants.proofs.Ticks.{done_number}
 use Rattle.sampling.specs.Sampling.{AtSei, behind, SafeAfterSei, SamplingRoutine}
 
@@ -34,7 +34,7 @@ module _ (k : Core) (p m : List ℕ) (b : k.busy ≡ 0) where
 
   goes_on : (o : Offer) → due k o ≡ Nothing → let n = number_of (tick_of k p m o).answer in (n ≤ 5) ⊎ (18 ≤ n)
   goes_on o d =
-      every-tick decode_of (λ t. (number_of t.answer ≤ 5) ⊎ (18 ≤ number_of t.answer)) k p m o
+      every_tick decode_of (λ t. (number_of t.answer ≤ 5) ⊎ (18 ≤ number_of t.answer)) k p m o
       (λ n g l. inl l)
       (λ g l. absurd (omega arith))
       (λ z v e r. let c : Vector v ≡ Nothing = sym e ∙ d in let f : true ≡ false = cc in clash f)

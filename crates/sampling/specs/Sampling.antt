@@ -8,7 +8,7 @@ use Rattle.instruction.specs.declared.Instruction.TheVariants.{BSET}
 use Rattle.memory.specs.Memory.{has_word_of}
 use Rattle.cores.specs.declared.Core.{Core}
 use Rattle.cores.specs.State.{reg, flag, fresh_of, with_reg, with_sreg, with_pc, with_inhibit, with_chip}
-use Rattle.cores.specs.Flow.{opAt}
+use Rattle.cores.specs.Flow.{op_at}
 use Rattle.tick.specs.declared.Offer.{Offer}
 use Rattle.tick.specs.declared.Offer.TheVariants.{Vector, Nothing}
 use Rattle.tick.specs.declared.Answer.TheVariants.{Ran}
@@ -23,7 +23,7 @@ pub record AtSei (k : Core) (p : List ℕ) : Type 0 where
   pub disabled : flag k 7 ≡ false
   pub below : k.pc < 65535
   pub there : has_word_of p k.pc ≡ true
-  pub sei : opAt decode_of p k.pc ≡ BSET 7
+  pub sei : op_at decode_of p k.pc ≡ BSET 7
 
 -- behind SEI: PC is one on, I and inhibit are set, all else is as it was
 abbrev pub behind : Core → Core

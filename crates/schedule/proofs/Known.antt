@@ -21,7 +21,7 @@ use Rattle.tick.specs.declared.Answer.TheVariants.{Refused, Waited, Entered, Ran
 use Rattle.tick.proofs.Steps.{refused_keeps}
 use Rattle.run.specs.Run.{Run}
 use Rattle.schedule.specs.Schedule.{Record, rising, offered, Scheduled, scheduled}
-use Rattle.schedule.specs.Laws.{afterBy, tick_by, entersBy, how_many, offered_at, entered_in}
+use Rattle.schedule.specs.Laws.{after_by, tick_by, enters_by, how_many, offered_at, entered_in}
 use Rattle.schedule.proofs.Steps.{ByNumber, by_number, step_by, above, not_due}
 
 -- ---- the numbers of a run from its tick j on are 0 or above j
@@ -108,13 +108,13 @@ rest_rises last (d ∷ ds) r = (d.tick, (above last last d ds (ltb last d.tick) 
 -- ---- what is known
 module _ (v : ℕ → Offer) (k₀ : Core) (p m₀ : List ℕ) where
   abbrev at : ℕ → Core × List ℕ
-  at j = afterBy v k₀ p m₀ j
+  at j = after_by v k₀ p m₀ j
 
   abbrev tick : ℕ → Tick
   tick j = tick_by v k₀ p m₀ j
 
   abbrev enters : ℕ → Bool
-  enters j = entersBy v k₀ p m₀ j
+  enters j = enters_by v k₀ p m₀ j
 
   -- from tick j to tick n none ends the run
   abbrev pub On : ℕ → ℕ → Type 0
@@ -214,7 +214,7 @@ module _ (v : ℕ → Offer) (k₀ : Core) (p m₀ : List ℕ) where
     same = ap (λ (s : Core × List ℕ). tick_of s.0 p s.1 (v (suc j))) here ∙ ap (λ o. tick_of k p m o) offer
 
     next : at (suc j) ≡ (t.core, t.bytes)
-    unfolding afterBy
+    unfolding after_by
     next = ap (λ (z : Tick). (z.core, z.bytes)) same
 
     answers : (tick j).answer ≡ t.answer

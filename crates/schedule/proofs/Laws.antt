@@ -19,7 +19,7 @@ use Rattle.tick.specs.declared.Offer.{Offer}
 use Rattle.tick.specs.declared.Offer.TheVariants.{Vector, Nothing}
 use Rattle.run.specs.Run.{after, run_of}
 use Rattle.schedule.specs.Schedule.{Record, record_at, records_from, records_of, rising, refusal_of, offered, Scheduled, stopped, noted, scheduled, numbers_of, Schedule}
-use Rattle.schedule.specs.Laws.{afterBy, offers, x, SingleTicks, SchedulesAreTicks, NumbersWritten, EmptyListIsARun, SameScheduleUnderLargerBudget}
+use Rattle.schedule.specs.Laws.{after_by, offers, x, SingleTicks, SchedulesAreTicks, NumbersWritten, EmptyListIsARun, SameScheduleUnderLargerBudget}
 use Rattle.schedule.proofs.Steps.{step_by, quiet}
 use Rattle.schedule.proofs.Following.{many_records}
 use Rattle.schedule.proofs.Checks.{passed_rises, passed_room}
@@ -78,7 +78,7 @@ module _ (v : ℕ → Offer) (k : Core) (p m : List ℕ) where
 -- ---- single ticks
 module _ (b : ℕ) (k : Core) (p m l : List ℕ) (h : rising 0 (records_of l) ≡ true) where
   all : Known (offers b k p m l) k p m b 0 (records_of l) (x b k p m l)
-  unfolding afterBy
+  unfolding after_by
   all = known (offers b k p m l) k p m b 0 k m (records_of l) 0 refl h (λ n _. refl)
 
   many : length (x b k p m l).entries ≡ length l / 5

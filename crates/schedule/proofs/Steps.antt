@@ -18,7 +18,7 @@ use Rattle.execute.specs.declared.Done.TheVariants as done
 use Rattle.tick.specs.Tick.{Tick, number_of, refuses, stops, answer_of, due, tick_of}
 use Rattle.tick.specs.declared.Offer.{Offer}
 use Rattle.tick.specs.declared.Offer.TheVariants.{Nothing}
-use Rattle.tick.proofs.Steps.{every-tick, every_due, performed}
+use Rattle.tick.proofs.Steps.{every_tick, every_due, performed}
 use Rattle.run.specs.Run.{Run, ended, after, ran, run_of}
 use Rattle.run.specs.Lent.{offers}
 use Rattle.run.proofs.Unroll.{step}
@@ -43,7 +43,7 @@ none_due k o e = every_due (λ x. offers x ≡ false) k o refl (λ _ _. ap offer
 
 pub by_number : (k : Core) (p m : List ℕ) (o : Offer) → ByNumber o (tick_of k p m o)
 by_number k p m o =
-    every-tick decode_of (ByNumber o) k p m o
+    every_tick decode_of (ByNumber o) k p m o
     (λ n g l. record { refused = sym (lt-ltb n 16 (omega arith)); ends = sym (lt-leb 22 n (omega arith)); unoffered = λ _. ne_eqb n 17 (λ e. omega (arith, e)); unspent = ne_eqb n 24 (λ e. omega (arith, e)) })
     (λ g l. record { refused = refl; ends = refl; unoffered = λ _. refl; unspent = refl })
     (λ z v d l. record { refused = refl; ends = refl; unoffered = λ e. clash (ap offers (sym d) ∙ none_due k o e); unspent = refl })

@@ -15,13 +15,13 @@ use Rattle.schedule.specs.Schedule.{Record, record_at, records_of, rising, refus
 -- ---- single ticks
 module _ (v : ℕ → Offer) (k : Core) (p m : List ℕ) where
   -- core and data after so many ticks
-  unfoldable pub afterBy : ℕ → Core × List ℕ
-  afterBy zero = (k, m)
-  afterBy (suc j) = let t = tick_of (afterBy j).0 p (afterBy j).1 (v (suc j)) in (t.core, t.bytes)
+  unfoldable pub after_by : ℕ → Core × List ℕ
+  after_by zero = (k, m)
+  after_by (suc j) = let t = tick_of (after_by j).0 p (after_by j).1 (v (suc j)) in (t.core, t.bytes)
 
   -- the tick behind so many, which is number j + 1
   abbrev pub tick_by : ℕ → Tick
-  tick_by j = tick_of (afterBy j).0 p (afterBy j).1 (v (suc j))
+  tick_by j = tick_of (after_by j).0 p (after_by j).1 (v (suc j))
 
   -- none of so many is refused, break or end
   abbrev pub GoesOnBy : ℕ → Type 0
@@ -48,8 +48,8 @@ module _ (v : ℕ → Offer) (k : Core) (p m : List ℕ) where
     pub answer : r.answer ≡ number_of (tick_by others).answer
 
   -- the tick behind so many enters
-  abbrev pub entersBy : ℕ → Bool
-  entersBy j = eqb (number_of (tick_by j).answer) 17
+  abbrev pub enters_by : ℕ → Bool
+  enters_by j = eqb (number_of (tick_by j).answer) 17
 
 -- of how many of the first j ticks something holds
 abbrev pub how_many : (ℕ → Bool) → ℕ → ℕ
@@ -90,14 +90,14 @@ module _ (b : ℕ) (k : Core) (p m l : List ℕ) where
 
   pub record SingleTicks : Type 0 where
     -- core, data, answer and count
-    pub stands : (x.run.core, x.run.bytes) ≡ afterBy offers k p m x.run.count
+    pub stands : (x.run.core, x.run.bytes) ≡ after_by offers k p m x.run.count
     pub ends : SpentBy offers k p m b x.run ⊎ (RefusedBy offers k p m b x.run ⊎ StoppedBy offers k p m b x.run)
     -- a number a record: the tick of its entry, or 0
     pub numbers : length x.entries ≡ length l / 5
     pub each : (i : ℕ) → i < length l / 5 → (number_at i ≡ 0) ⊎ ((behind : ℕ) × EntryAt i behind)
     -- 0 exactly where none came: each entry of the run is a record's
     pub only : (j : ℕ) → j < x.run.count → (tick_by offers k p m j).answer ≡ Entered → (i : ℕ) × ((i < length l / 5) × (number_at i ≡ suc j))
-    pub as_many : how_many (entersBy offers k p m) x.run.count ≡ entered_in x.entries
+    pub as_many : how_many (enters_by offers k p m) x.run.count ≡ entered_in x.entries
     -- entries rise, in the list's order
     pub rise : (i later : ℕ) → i < later → 0 < number_at later → (0 < number_at i) × (number_at i < number_at later)
 

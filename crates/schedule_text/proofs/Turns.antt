@@ -53,18 +53,18 @@ given_right (Firing tick vector) last room h g = right tick vector last room h
 -- ---- one line more
 module _ (room n last : ℕ) (l : List ℕ) (ls : List (List ℕ)) where
   -- what is told from a line on, by what `judge` tells of it
-  abbrev from-judged : Judged → Told
-  from-judged j =
+  abbrev from_judged : Judged → Told
+  from_judged j =
       pick (eqb j.fault 0) (pick j.given (behind (record { tick = j.tick; vector = j.vector }) (read_from (room - 1) (n + 1) j.tick ls)) (read_from room (n + 1) last ls)) (told j.fault n)
 
-  turn_by : (s : Said) → line_of l ≡ s → read_from room n last (l ∷ ls) ≡ from-judged (judged_of s last room)
+  turn_by : (s : Said) → line_of l ≡ s → read_from room n last (l ∷ ls) ≡ from_judged (judged_of s last room)
   unfolding read_from
   turn_by Nothing e = rw (e, read_from)
   turn_by Wrong e = rw (e, read_from)
   turn_by (Firing tick vector) e = rw (e, read_from)
 
   module _ (j : Judged) (is : j ≡ judged_of (line_of l) last room) where
-    turn : read_from room n last (l ∷ ls) ≡ from-judged j
+    turn : read_from room n last (l ∷ ls) ≡ from_judged j
     turn = turn_by (line_of l) refl ∙ rw is
 
     pub faulty : (j.fault ≡ 0 → ⊥) → read_from room n last (l ∷ ls) ≡ told j.fault n

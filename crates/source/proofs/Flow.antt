@@ -51,8 +51,8 @@ jump pc k hpc hk = jump_by pc k (ltb k 128) (ltb pc (256 - k)) refl refl hpc hk
 
 module _ (s : Self) (w : Sound s.core) where
   -- what a call leaves, by the place of the high byte and by SP
-  abbrev callsTo : ℕ → ℕ → ℕ → ℕ → ℕ → Outcome Unit
-  callsTo back t n at sp = leaves_out s (out (with_pc (with_sp (with_busy s.core n) sp) t) (set (set s.ds s.core.sp (back % 256)) at (back / 256)))
+  abbrev calls_to : ℕ → ℕ → ℕ → ℕ → ℕ → Outcome Unit
+  calls_to back t n at sp = leaves_out s (out (with_pc (with_sp (with_busy s.core n) sp) t) (set (set s.ds s.core.sp (back % 256)) at (back / 256)))
 
   -- what a return leaves, by the places of the two bytes
   abbrev returned : ℕ → ℕ → Core
@@ -75,7 +75,7 @@ module _ (s : Self) (w : Sound s.core) where
       let h = ltb-true s.core.pc 65535 p in
       let f : up s.core.pc 1 ≡ s.core.pc + 1 = omega arith in
       simp (lt-ltb (s.core.pc + 1) 65536 (omega arith), after_pick, length-set, less_two, high_byte (s.core.pc + 1) (omega arith), f)
-      (push_tests s.core.sp (length s.ds) w.sp_lt (callsTo (s.core.pc + 1) (k % 65536) 2))
+      (push_tests s.core.sp (length s.ds) w.sp_lt (calls_to (s.core.pc + 1) (k % 65536) 2))
   call_by k false p = let h = ltb-false s.core.pc 65535 p in rw (le-ltb (s.core.pc + 1) 65536 (omega arith))
 
   pub call_is : (k : ℕ)
@@ -88,7 +88,7 @@ module _ (s : Self) (w : Sound s.core) where
       let e = w.count in
       let l : 30 < 31 = omega arith in
       simp (after_pick, length-set, get_word_ok, less_two, high_byte s.core.pc w.pc_lt)
-      (push_tests s.core.sp (length s.ds) w.sp_lt (callsTo s.core.pc (word s.core 30) 1))
+      (push_tests s.core.sp (length s.ds) w.sp_lt (calls_to s.core.pc (word s.core 30) 1))
 
   pub ijmp_is : ijmp s ≡ leaves s (ijmp_of s.core)
   unfolding ijmp with_pc with_busy
@@ -102,7 +102,7 @@ module _ (s : Self) (w : Sound s.core) where
   unfolding rcall ds_write with_sp with_pc with_busy
   rcall_is k =
       simp (after_pick, length-set, less_two, high_byte s.core.pc w.pc_lt)
-      (push_tests s.core.sp (length s.ds) w.sp_lt (callsTo s.core.pc (up s.core.pc k) 1))
+      (push_tests s.core.sp (length s.ds) w.sp_lt (calls_to s.core.pc (up s.core.pc k) 1))
 
   pub ret_is : Bytes s.ds → ret s ≡ pick (leb s.core.sp 65533 && ltb (s.core.sp + 2) (length s.ds)) (leaves s (ret_of s.core s.ds)) panic
   unfolding ret ds_read with_sp with_pc with_busy

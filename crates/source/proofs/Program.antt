@@ -19,7 +19,7 @@ use Rattle.instruction.specs.Fields.{InFields}
 use Rattle.instruction.proofs.Laws.{fields_in_range}
 use Rattle.instruction.proofs.Tests.{each}
 use Rattle.memory.specs.Memory.{word_of, program_word_of, has_word_of}
-use Rattle.cores.specs.Flow.{opAt}
+use Rattle.cores.specs.Flow.{op_at}
 use Rattle.cores.proofs.Bounds.{program_word_lt}
 use Rattle.source_decode.specs.RustDecode.{rust_decode}
 use Rattle.source_decode.proofs.Decodes.{decodes_as_the_rust}
@@ -57,10 +57,10 @@ module _ (s : Self) (b : Bytes s.progmem) where
   word_ok pc = word_by pc (eqb s.core.pc 65535) refl
 
 -- ---- what they decode to
-pub op_same : (p : List ℕ) (pc : ℕ) → Bytes p → rust_decode (program_word_of p pc) (program_word_of p (pc + 1)) ≡ opAt decode_of p pc
+pub op_same : (p : List ℕ) (pc : ℕ) → Bytes p → rust_decode (program_word_of p pc) (program_word_of p (pc + 1)) ≡ op_at decode_of p pc
 op_same p pc b = decodes_as_the_rust (program_word_of p pc) (program_word_of p (pc + 1)) (program_word_lt p pc b) (program_word_lt p (pc + 1) b)
 
-pub op_in : (p : List ℕ) (pc : ℕ) → Bytes p → InFields (opAt decode_of p pc)
+pub op_in : (p : List ℕ) (pc : ℕ) → Bytes p → InFields (op_at decode_of p pc)
 op_in p pc b = fields_in_range (program_word_of p pc) (program_word_of p (pc + 1)) (program_word_lt p (pc + 1) b)
 
 -- ---- the Rust's pattern is 01's list of instructions of two words

@@ -15,8 +15,8 @@ use Rattle.basis.specs.Bytes.{Bytes}
 use Rattle.instruction.specs.Decode.{decode_of}
 use Rattle.memory.specs.Memory.{has_word_of}
 use Rattle.cores.specs.State.{Sound, reg, with_pc, with_busy}
-use Rattle.cores.specs.Flow.{twoAt, skipped, data_bit_is}
-use Rattle.execute.specs.Needs.{skipNeeds}
+use Rattle.cores.specs.Flow.{two_at, skipped, data_bit_is}
+use Rattle.execute.specs.Needs.{skip_needs}
 use Rattle.source_decode.specs.RustDecode.{rust_decode}
 use Rattle.source.specs.Monad.{Self, Outcome, panic, Rust, ◌>>=◌, ◌>>◌, if◌then◌else◌, when, self_pc, busy=}
 use Rattle.source.specs.Integers.{◌+u16◌, ◌xor◌, pc+=}
@@ -65,10 +65,10 @@ test_is v b set h hb = rw (← and_flag v b h hb) (xor_not set (eqb (bit_and v (
 module _ (s : Self) (q : Bytes s.progmem) where
   -- 01's needs and effect of a skip
   abbrev pub Skips : Bool → Bool → Outcome Unit
-  Skips t b = pick (met (skipNeeds decode_of s.core t s.progmem b)) (leaves s (skipped s.core t (twoAt decode_of s.core s.progmem))) panic
+  Skips t b = pick (met (skip_needs decode_of s.core t s.progmem b)) (leaves s (skipped s.core t (two_at decode_of s.core s.progmem))) panic
 
   -- by the instruction skipped, two words or one, and by whether PC is 65,535
-  skip_by : (two end : Bool) → twoAt decode_of s.core s.progmem ≡ two → eqb s.core.pc 65535 ≡ end
+  skip_by : (two end : Bool) → two_at decode_of s.core s.progmem ≡ two → eqb s.core.pc 65535 ≡ end
       → skip s ≡ pick (has_word_of s.progmem s.core.pc && ltb (s.core.pc + one two) 65535) (leaves s (skipped s.core true two)) panic
   unfolding skipped with_pc with_busy
   skip_by two true e f =
@@ -89,7 +89,7 @@ module _ (s : Self) (q : Bytes s.progmem) where
   when_is : (t : Bool) → when t skip s ≡ Skips t true
   unfolding skipped
   when_is true =
-      let two = twoAt decode_of s.core s.progmem in
+      let two = two_at decode_of s.core s.progmem in
       skip_by two (eqb s.core.pc 65535) refl refl ∙ rw (and-true (ltb (s.core.pc + one two) 65535))
   when_is false = refl
 

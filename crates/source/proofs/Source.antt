@@ -9,7 +9,7 @@ use lib.Dec.{eqb, ltb}
 use borrow.Author.Tests.{eqb-false, le-ltb}
 use Rattle.basis.specs.Pick.{pick}
 use Rattle.instruction.specs.Decode.{decode_of}
-use Rattle.cores.specs.Flow.{opAt}
+use Rattle.cores.specs.Flow.{op_at}
 use Rattle.cores.specs.declared.Core.{Core}
 use Rattle.cores.specs.State.{with_pc, with_busy, with_inhibit}
 use Rattle.tick.specs.declared.Offer.{Offer}
@@ -40,7 +40,7 @@ decided_low n k m t c = decided_by n k m t (eqb (refusal n) 0) refl c
 stepped_low : (k j : Core) (p m : List ℕ) → Low (stepped decode_of k j p m)
 unfolding stepped
 stepped_low k j p m =
-    let op = opAt decode_of p j.pc in
+    let op = op_at decode_of p j.pc in
     let i = with_pc j (j.pc + 1) in
     let x = executed decode_of i op p m in
     decided_low (with_fetch (fetched p j.pc op) (needs decode_of i op p m)) k m (executed_tick x) (done_refuses_not x.done)

@@ -13,7 +13,7 @@ use Rattle.basis.specs.Bytes.{Bytes}
 use Rattle.instruction.specs.Decode.{decode_of}
 use Rattle.instruction.specs.Code.{two_words}
 use Rattle.memory.specs.Memory.{has_word_of}
-use Rattle.cores.specs.Flow.{opAt}
+use Rattle.cores.specs.Flow.{op_at}
 use Rattle.cores.specs.declared.Core.{Core}
 use Rattle.cores.specs.State.{Sound, out, with_pc, with_sp, with_busy, with_inhibit, with_service, flag}
 use Rattle.tick.specs.declared.Offer.{Offer}
@@ -82,8 +82,8 @@ interrupts_is s w = interrupts_by s s.core.inhibit (flag s.core 7) s.core.in_ser
 -- ---- the fetch
 module _ (s : Self) (q : Bytes s.progmem) where
   -- by whether the instruction has two words, and by whether PC is 65,535
-  fetch_by : (two end : Bool) → two_words (opAt decode_of s.progmem s.core.pc) ≡ two → eqb s.core.pc 65535 ≡ end
-      → fetch s ≡ pick (end || has_word_of s.progmem s.core.pc && pick two (has_word_of s.progmem (s.core.pc + 1)) true) (ok (opAt decode_of s.progmem s.core.pc) s) panic
+  fetch_by : (two end : Bool) → two_words (op_at decode_of s.progmem s.core.pc) ≡ two → eqb s.core.pc 65535 ≡ end
+      → fetch s ≡ pick (end || has_word_of s.progmem s.core.pc && pick two (has_word_of s.progmem (s.core.pc + 1)) true) (ok (op_at decode_of s.progmem s.core.pc) s) panic
   unfolding fetch
   fetch_by true true e f = simp (word_ok s q, f, unused_word_ok s q, op_same s.progmem s.core.pc q, pattern_is, e)
   fetch_by false true e f = simp (word_ok s q, f, unused_word_ok s q, op_same s.progmem s.core.pc q, pattern_is, e)
@@ -91,8 +91,8 @@ module _ (s : Self) (q : Bytes s.progmem) where
   fetch_by false false e f = simp (word_ok s q, f, unused_word_ok s q, after_pick, op_same s.progmem s.core.pc q, pattern_is, e, and-true)
 
   fetch_is : (end : Bool) → eqb s.core.pc 65535 ≡ end
-      → fetch s ≡ pick (end || fetched s.progmem s.core.pc (opAt decode_of s.progmem s.core.pc)) (ok (opAt decode_of s.progmem s.core.pc) s) panic
-  fetch_is end f = fetch_by (two_words (opAt decode_of s.progmem s.core.pc)) end refl f
+      → fetch s ≡ pick (end || fetched s.progmem s.core.pc (op_at decode_of s.progmem s.core.pc)) (ok (op_at decode_of s.progmem s.core.pc) s) panic
+  fetch_is end f = fetch_by (two_words (op_at decode_of s.progmem s.core.pc)) end refl f
 
 -- the core whose PC is behind the opcode
 abbrev behind : Self → Self
@@ -110,7 +110,7 @@ module _ (s : Self) (c : s.core.chip ≡ false) (w : Sound s.core) (m : Bytes s.
   unfolding execute stepped with_inhibit with_pc
   execute_step e =
       let pc = s.core.pc in
-      let op = opAt decode_of s.progmem pc in
+      let op = op_at decode_of s.progmem pc in
       let l = w.pc_lt in
       let g = eqb-false pc 65535 e in
       let n = needs decode_of (behind s).core op s.progmem s.ds in

@@ -2,7 +2,7 @@
 use Rattle.std.specs.Prelude.{Bool, true, false, not, ◌&&◌, ◌||◌, ℕ, eqb, pos, ◌+ℤ◌}
 use Rattle.std.specs.Int.Bits.{bit_and, bit_or}
 use Rattle.source_decode.specs.RustDecode.{rust_decode}
-use Rattle.source.specs.Monad.{Rust, ◌>>=◌, ◌>>◌, if◌then◌else◌, when, self_pc, self_sp, pc=, busy=, interupt-inhibit=, lvl0ex=}
+use Rattle.source.specs.Monad.{Rust, ◌>>=◌, ◌>>◌, if◌then◌else◌, when, self_pc, self_sp, pc=, busy=, interupt_inhibit=, lvl0ex=}
 use Rattle.source.specs.Integers.{◌+u16◌, ◌<<u8◌, ◌<<u16◌, ◌>>u16◌, u8::overflowing_sub, u16::overflowing_add, as_u8, as_u16, view_bits, ◌xor◌, pc+=, sp+=, sp-=, u8_as_i8, signed_as_u16}
 use Rattle.source.specs.CallJmpLdsSts.{CALL|JMP|LDS|STS}
 use Rattle.source.specs.Registers.{ds_read, ds_write, get_register, get_register_word, get_io_register, get_progmem, get_progmem_unused, BitSREG::C, BitSREG::Z, BitSREG::N, BitSREG::V, BitSREG::S, BitSREG::H, BitSREG::from, get_sreg_bit, set_sreg_bit}
@@ -156,7 +156,7 @@ reti = do
   bl ← ds_read (← self_sp)
   pc= (bit_or (← bh <<u16 8) bl)
   interrupt_handler_reti
-  interupt-inhibit= true
+  interupt_inhibit= true
 
 -- k is the word of the Rust's i16, and `k as u16` changes no bit of it
 unfoldable pub rjmp : ℕ → Rust Unit  -- 908

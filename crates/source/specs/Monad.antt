@@ -96,8 +96,8 @@ sp= v = change (λ k. with_sp k v)
 abbrev pub busy= : ℕ → Rust Unit
 busy= v = change (λ k. with_busy k v)
 
-abbrev pub interupt-inhibit= : Bool → Rust Unit
-interupt-inhibit= on = change (λ k. with_inhibit k on)
+abbrev pub interupt_inhibit= : Bool → Rust Unit
+interupt_inhibit= on = change (λ k. with_inhibit k on)
 
 abbrev pub lvl0ex= : Bool → Rust Unit
 lvl0ex= on = change (λ k. with_service k on)

@@ -6,7 +6,7 @@ use Rattle.tick.specs.declared.Offer.TheVariants.{Vector, Nothing}
 use Rattle.instruction.specs.declared.Instruction.{Instruction}
 use Rattle.instruction.specs.declared.Instruction.TheVariants.{ADC, ADD, ADIW, AND, ANDI, ASR, BCLR, BLD, BRBC, BRBS, BREAK, BSET, BST, CALL, CBI, COM, CP, CPC, CPI, CPSE, DEC, EOR, FMUL, FMULS, FMULSU, ICALL, IJMP, IN, INC, JMP, LDX, LDXinc, LDXdec, LDYinc, LDYdec, LDZinc, LDZdec, LDDY, LDDZ, LDI, LDS, LPM, LPMZ, LPMZinc, LSL, LSR, MOV, MOVW, MUL, MULS, MULSU, NEG, NOP, OR, ORI, OUT, POP, PUSH, RCALL, RET, RETI, RJMP, ROR, SBC, SBCI, SBI, SBIC, SBIS, SBIW, SBRC, SBRS, SLEEP, STX, STXdec, STXinc, STYdec, STYinc, STZdec, STZinc, STDY, STDZ, STS, SUB, SUBI, SWAP, WDR, UNDEF}
 use Rattle.source_decode.specs.RustDecode.{rust_decode}
-use Rattle.source.specs.Monad.{Rust, ◌>>=◌, ◌>>◌, return, if◌then◌else◌, when, self_pc, self_sp, self_busy, self_interupt_inhibit, self_lvl0ex, self_pending, pc=, busy=, interupt-inhibit=, lvl0ex=}
+use Rattle.source.specs.Monad.{Rust, ◌>>=◌, ◌>>◌, return, if◌then◌else◌, when, self_pc, self_sp, self_busy, self_interupt_inhibit, self_lvl0ex, self_pending, pc=, busy=, interupt_inhibit=, lvl0ex=}
 use Rattle.source.specs.Integers.{◌-u8◌, ◌>>u16◌, as_u8, pc+=, sp-=}
 use Rattle.source.specs.Registers.{ds_write, get_progmem, get_progmem_unused, BitSREG::I, get_sreg_bit}
 use Rattle.source.specs.CallJmpLdsSts.{CALL|JMP|LDS|STS}
@@ -45,7 +45,7 @@ handle_interrupts = do
   inhibit ← self_interupt_inhibit
   if inhibit
       then (do
-        interupt-inhibit= false  -- 1230
+        interupt_inhibit= false  -- 1230
         return false)
       else (do
         I ← get_sreg_bit BitSREG::I

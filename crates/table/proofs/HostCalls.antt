@@ -139,31 +139,31 @@ numbers : (a n : ℕ) → (a ≡ n → ⊥) → (a ≡ n) ↔ (false ≡ true)
 numbers a n h = (λ e. absurd (h e), λ e. clash (sym e))
 
 module _ (s p m : List ℕ) (offer budget ticks : ℕ) where
-  abbrev theRun : Run
-  theRun = run_of budget (core_of s) p m (offer_of offer)
+  abbrev the_run : Run
+  the_run = run_of budget (core_of s) p m (offer_of offer)
 
-  abbrev runRows : List (ℕ × Bool)
-  runRows = check_rows s offer ((24, goes_on budget (core_of s) p m (offer_of offer)) ∷ [])
+  abbrev run_rows : List (ℕ × Bool)
+  run_rows = check_rows s offer ((24, goes_on budget (core_of s) p m (offer_of offer)) ∷ [])
 
   -- none of the checks' numbers is a run's
-  run_above : (n : ℕ) → 5 < n → n < 16 → (theRun.answer ≡ n) ↔ (false ≡ true)
+  run_above : (n : ℕ) → 5 < n → n < 16 → (the_run.answer ≡ n) ↔ (false ≡ true)
   run_above n g l =
-      numbers theRun.answer n
+      numbers the_run.answer n
       (λ e. elim (run_number budget (core_of s) p m (offer_of offer)) [
         | inl t ↦ omega arith
         | inr t ↦ elim t [ inl u ↦ omega arith | inr u ↦ omega arith ]
       ])
 
-  run_exactly : ExactlyWhen (avr_run_of s p m offer budget ticks).number runRows
+  run_exactly : ExactlyWhen (avr_run_of s p m offer budget ticks).number run_rows
   unfolding avr_run_of
   run_exactly =
-      let refused = exactly (avr_run_of s p m offer budget ticks).number runRows in
+      let refused = exactly (avr_run_of s p m offer budget ticks).number run_rows in
       test (ltb 65536 offer) (λ o. refused (rw o tt))
       λ o. by_checks s (λ w. refused (rw (o, w) tt)) (λ w b. refused (rw (o, w, b) tt)) (λ w b z. refused (rw (o, w, b, z) tt))
       λ w b z.
       let r : read_of s ≡ record { refusal = 0; core = core_of s } = rw (w, b, z) refl in
-      let n : (avr_run_of s p m offer budget ticks).number ≡ theRun.answer = rw (o, r) refl in
-      subst (λ (a : ℕ). ExactlyWhen a runRows) (sym n)
+      let n : (avr_run_of s p m offer budget ticks).number ≡ the_run.answer = rw (o, r) refl in
+      subst (λ (a : ℕ). ExactlyWhen a run_rows) (sym n)
       (rw (o, w, b, z) (
         run_above 10 (omega arith) (omega arith),
         (

@@ -18,7 +18,7 @@ use Rattle.instruction.specs.declared.Instruction.TheVariants.{ADC, ADD, ADIW, A
 use Rattle.memory.specs.Memory.{has_of, has_word_of}
 use Rattle.cores.specs.declared.Core.{Core}
 use Rattle.cores.specs.State.{reg, word, with_pc, with_inhibit}
-use Rattle.cores.specs.Flow.{data_bit_is, opAt}
+use Rattle.cores.specs.Flow.{data_bit_is, op_at}
 use Rattle.cores.specs.Transfer.{reach_of, pointed_of}
 use Rattle.execute.specs.Needs.{Needs, needs, fetched, with_fetch}
 use Rattle.tick.proofs.Steps.{onward}
@@ -116,9 +116,9 @@ lacking k p m op =
     record { program = not (outside_program k p m op); room = not (past_the_top k p m op); stack = not (off_the_stack k op); bytes = not (outside_data k m op) }
 
 module _ (k : Core) (p m : List ℕ) (low : k.pc < 65535) where
-  skip_room : (t : Bool) → pick t (ltb (k.pc + 1 + one (two_words (opAt decode_of p (k.pc + 1)))) 65535) true
-      ≡ not (t && (eqb k.pc 65534 || eqb k.pc 65533 && two_words (opAt decode_of p (k.pc + 1))))
-  skip_room true = over low (two_words (opAt decode_of p (k.pc + 1)))
+  skip_room : (t : Bool) → pick t (ltb (k.pc + 1 + one (two_words (op_at decode_of p (k.pc + 1)))) 65535) true
+      ≡ not (t && (eqb k.pc 65534 || eqb k.pc 65533 && two_words (op_at decode_of p (k.pc + 1))))
+  skip_room true = over low (two_words (op_at decode_of p (k.pc + 1)))
   skip_room false = refl
 
   abbrev here : Bool

@@ -18,7 +18,7 @@ use Rattle.instruction.specs.declared.Instruction.TheVariants.{BREAK, SLEEP, UND
 use Rattle.instruction.proofs.Tests.{each}
 use Rattle.cores.specs.declared.Core.{Core}
 use Rattle.cores.specs.State.{flag, with_inhibit}
-use Rattle.cores.specs.Flow.{opAt}
+use Rattle.cores.specs.Flow.{op_at}
 use Rattle.execute.specs.declared.Done.{Done}
 use Rattle.execute.specs.declared.Done.TheVariants as done
 use Rattle.execute.specs.Needs.{refusal, push_needs}
@@ -26,7 +26,7 @@ use Rattle.execute.specs.Execute.{executed}
 use Rattle.tick.specs.declared.Offer.{Offer}
 use Rattle.tick.specs.declared.Offer.TheVariants.{Vector, Nothing}
 use Rattle.tick.specs.Tick.{number_of, due, stepped, enters_or_steps, ticked, tick_of}
-use Rattle.tick.proofs.Steps.{onward, stepNeeds, performed}
+use Rattle.tick.proofs.Steps.{onward, step_needs, performed}
 use Rattle.table.specs.Steps.{offered, enters, has_all, pushed}
 use Rattle.table.specs.Table.{outside_program, past_the_top, off_the_stack, outside_data, rows, ExactlyWhen, holding, Given, AnswersByTheTable}
 use Rattle.table.proofs.Needs.{push_stack, pushed_in, needs_told, lacking}
@@ -131,7 +131,7 @@ module _ (k : Core) (p m : List ℕ) (o : Offer) where
     -- an instruction, which may lack four things and is then done in one of five ways
     module _ (d : due k o ≡ Nothing) (e : enters k o ≡ false) (h : k.pc < 65535) where
       abbrev op : Instruction
-      op = opAt decode_of p k.pc
+      op = op_at decode_of p k.pc
 
       abbrev how : Done
       how = (performed decode_of k p m).done
@@ -151,7 +151,7 @@ module _ (k : Core) (p m : List ℕ) (o : Offer) where
       top : eqb k.pc 65535 ≡ false
       top = ne_eqb k.pc 65535 (omega arith)
 
-      lacked : refusal (stepNeeds decode_of k p m) ≡ refusal (lacking k p m op)
+      lacked : refusal (step_needs decode_of k p m) ≡ refusal (lacking k p m op)
       lacked = ap refusal (needs_told k p m h op)
 
       module _ (a : outside_program k p m op ≡ false) (b : past_the_top k p m op ≡ false) (c : off_the_stack k op ≡ false) (f : outside_data k m op ≡ false) where

@@ -8,7 +8,7 @@ use Rattle.instruction.specs.declared.Instruction.TheVariants.{BREAK, CALL, ICAL
 use Rattle.memory.specs.Memory.{has_of, has_word_of}
 use Rattle.cores.specs.declared.Core.{Core}
 use Rattle.cores.specs.State.{word}
-use Rattle.cores.specs.Flow.{opAt}
+use Rattle.cores.specs.Flow.{op_at}
 use Rattle.tick.specs.declared.Offer.{Offer}
 use Rattle.tick.specs.Tick.{number_of, tick_of}
 use Rattle.table.specs.Steps.{too_busy, waits, enters, ends, steps, reads_program, skips, pushed, data_needed, has_all}
@@ -23,7 +23,7 @@ outside_program k p m op =
 abbrev pub past_the_top : Core → List ℕ → List ℕ → Instruction → Bool
 past_the_top k p m op =
     one_of (CALL 0 ∷ LDS 0 0 ∷ STS 0 0 ∷ []) op && eqb k.pc 65534
-    || skips k m op && (eqb k.pc 65534 || eqb k.pc 65533 && two_words (opAt decode_of p (k.pc + 1)))
+    || skips k m op && (eqb k.pc 65534 || eqb k.pc 65533 && two_words (op_at decode_of p (k.pc + 1)))
 
 -- "3: .. CALL, RCALL, ICALL with SP below 2; RET, RETI with SP above 65,533"
 abbrev pub off_the_stack : Core → Instruction → Bool
@@ -35,7 +35,7 @@ outside_data k m op = not (has_all m (data_needed k op))
 
 module _ (k : Core) (p m : List ℕ) (o : Offer) where
   abbrev op : Instruction
-  op = opAt decode_of p k.pc
+  op = op_at decode_of p k.pc
 
   -- ---- "Refusals 1 to 4 look only at what the step reached needs: a wait, an entry or the end needs no opcode."
   abbrev lacks1 : Bool

@@ -12,7 +12,7 @@ use Rattle.instruction.specs.Code.{two_words}
 use Rattle.instruction.specs.Decode.{decode_of}
 use Rattle.instruction.specs.declared.Instruction.{Instruction}
 use Rattle.memory.specs.Memory.{has_word_of}
-use Rattle.cores.specs.Flow.{opAt}
+use Rattle.cores.specs.Flow.{op_at}
 use Rattle.cores.specs.declared.Core.{Core}
 use Rattle.execute.specs.Needs.{refusal, needs, fetched}
 use Rattle.execute.specs.Execute.{behind}
@@ -45,7 +45,7 @@ module _ (p : List ℕ) (pc : ℕ) (i : Instruction) where
 -- ---- step 5, by whether the words were found
 module _ (k : Core) (p m : List ℕ) where
   abbrev op : Instruction
-  op = opAt decode_of p k.pc
+  op = op_at decode_of p k.pc
 
   pub step_unfetched : (t : Bool) → t ≡ fetched p k.pc op → t ≡ false → Refuse 1 ≡ step_plan k p m
   unfolding step_plan

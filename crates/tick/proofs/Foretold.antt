@@ -9,7 +9,7 @@ use Rattle.basis.specs.Pick.{pick}
 use Rattle.instruction.specs.Decode.{decode_of}
 use Rattle.instruction.specs.declared.Instruction.{Instruction}
 use Rattle.cores.specs.declared.Core.{Core}
-use Rattle.cores.specs.Flow.{opAt}
+use Rattle.cores.specs.Flow.{op_at}
 use Rattle.cores.specs.State.{out, Leaves, with_pc, with_busy, with_inhibit}
 use Rattle.execute.specs.Needs.{Needs, refusal, push_needs, needs, fetched, with_fetch}
 use Rattle.execute.specs.Execute.{behind, executed}
@@ -46,14 +46,14 @@ module _ (k : Core) (p m : List ℕ) where
   steps : eqb k.pc 65535 ≡ false → in_turn (step_plan k p m) ≡ stepped decode_of k (with_inhibit k false) p m
   unfolding step_plan stepped with_inhibit
   steps e =
-      let i = opAt decode_of p k.pc in
+      let i = op_at decode_of p k.pc in
       let needed = with_fetch (fetched p k.pc i) (needs decode_of (behind k) i p m) in
       rw (← behind_is e) (granted_decided needed (Execute i) (executed_tick (executed decode_of (behind k) i p m)) (executes i))
 
-  enters_or_steps : (o : Offer) → in_turn (entry_or_step k p m o) ≡ enters_or_steps decode_of k p m o
+  enters_or_steps_lem : (o : Offer) → in_turn (entry_or_step k p m o) ≡ enters_or_steps decode_of k p m o
   unfolding entry_or_step enters_or_steps
-  enters_or_steps (Vector v) = granted_decided (push_needs k m) (Enter v) (in_turn (Enter v)) refl
-  enters_or_steps Nothing =
+  enters_or_steps_lem (Vector v) = granted_decided (push_needs k m) (Enter v) (in_turn (Enter v)) refl
+  enters_or_steps_lem Nothing =
       let next = with_inhibit k false in
       by_test in_turn (eqb k.pc 65535) End (step_plan k p m) (gives answer.End next m) (stepped decode_of k next p m) (λ _. refl) steps
 
@@ -64,7 +64,7 @@ module _ (k : Core) (p m : List ℕ) where
       let plan = entry_or_step k p m (due k o) in
       let rest = enters_or_steps decode_of k p m (due k o) in
       by_test in_turn (ltb 4 k.busy) (Refuse 5) (pick (ltb 0 k.busy) Wait plan) (gives (answer.Refused 5) k m) (pick (ltb 0 k.busy) waited rest) (λ _. refl)
-      λ _. by_test in_turn (ltb 0 k.busy) Wait plan waited rest (λ _. refl) λ _. enters_or_steps (due k o)
+      λ _. by_test in_turn (ltb 0 k.busy) Wait plan waited rest (λ _. refl) λ _. enters_or_steps_lem (due k o)
 
 pub foretold : TickIsTheTwoInTurn
 foretold k p m o =

@@ -10,7 +10,7 @@ use lib.Dec.{eqb, ltb}
 use Rattle.basis.proofs.Choice.{clash, cases, either}
 use Rattle.instruction.specs.Decode.{decode_of}
 use Rattle.instruction.specs.declared.Instruction.{Instruction}
-use Rattle.cores.specs.Flow.{opAt}
+use Rattle.cores.specs.Flow.{op_at}
 use Rattle.cores.specs.declared.Core.{Core}
 use Rattle.cores.specs.State.{flag, with_pc, with_busy, with_inhibit}
 use Rattle.execute.specs.declared.Done.{Done}
@@ -66,22 +66,22 @@ onward k = with_pc (with_inhibit k false) (k.pc + 1)
 
 module _ (decode : ℕ → ℕ → Instruction) where
   -- what the step of the instruction at PC needs, and what it gives
-  abbrev pub stepNeeds : Core → List ℕ → List ℕ → Needs
-  stepNeeds k p m = let op = opAt decode p k.pc in with_fetch (fetched p k.pc op) (needs decode (onward k) op p m)
+  abbrev pub step_needs : Core → List ℕ → List ℕ → Needs
+  step_needs k p m = let op = op_at decode p k.pc in with_fetch (fetched p k.pc op) (needs decode (onward k) op p m)
 
   abbrev pub performed : Core → List ℕ → List ℕ → Executed
-  performed k p m = executed decode (onward k) (opAt decode p k.pc) p m
+  performed k p m = executed decode (onward k) (op_at decode p k.pc) p m
 
   module _ (P : Tick → Type 0) (k : Core) (p m : List ℕ) (o : Offer) where
-    pub every-tick :
+    pub every_tick :
         ((n : ℕ) → 1 ≤ n → n ≤ 5 → P (gives (Refused n) k m))
         → (0 < k.busy → k.busy ≤ 4 → P (gives Waited (with_busy k (k.busy - 1)) m))
         → (k.busy ≡ 0 → (v : ℕ) → due k o ≡ Vector v → refusal (push_needs k m) ≡ 0 → P (gives Entered (entry k v m).core (entry k v m).bytes))
         → (k.busy ≡ 0 → due k o ≡ Nothing → k.pc ≡ 65535 → P (gives End (with_inhibit k false) m))
-        → (k.busy ≡ 0 → due k o ≡ Nothing → (k.pc ≡ 65535 → ⊥) → refusal (stepNeeds k p m) ≡ 0 → P (executed_tick (performed k p m)))
+        → (k.busy ≡ 0 → due k o ≡ Nothing → (k.pc ≡ 65535 → ⊥) → refusal (step_needs k p m) ≡ 0 → P (executed_tick (performed k p m)))
         → P (ticked decode k p m o)
     unfolding ticked enters_or_steps stepped with_inhibit
-    every-tick refuse wait enter end step =
+    every_tick refuse wait enter end step =
         cases P (ltb 4 k.busy) _ _ (λ b. refuse 5 (omega arith) (omega arith))
         λ b. cases P (ltb 0 k.busy) _ _ (λ c. wait (ltb-true 0 k.busy c) (ltb-false 4 k.busy b))
         λ c. offered (omega (arith, ltb-false 0 k.busy c)) (due k o) refl
@@ -93,12 +93,12 @@ module _ (decode : ℕ → ℕ → Instruction) where
         offered b (Vector v) e = every_decided P (push_needs k m) k m (gives Entered (entry k v m).core (entry k v m).bytes) low (enter b v e)
         offered b Nothing e =
             cases P (eqb k.pc 65535) (gives End (with_inhibit k false) m) _ (λ z. end b e (eqb-true k.pc 65535 z))
-            λ z. every_decided P (stepNeeds k p m) k m (executed_tick (performed k p m)) low (step b e (eqb-false k.pc 65535 z))
+            λ z. every_decided P (step_needs k p m) k m (executed_tick (performed k p m)) low (step b e (eqb-false k.pc 65535 z))
 
 -- a refused tick changes nothing
 pub refused_keeps : (k : Core) (p m : List ℕ) (o : Offer) → refuses (tick_of k p m o).answer ≡ true → ((tick_of k p m o).core ≡ k) × ((tick_of k p m o).bytes ≡ m)
 refused_keeps k p m o =
-    every-tick decode_of (λ t. refuses t.answer ≡ true → (t.core ≡ k) × (t.bytes ≡ m)) k p m o
+    every_tick decode_of (λ t. refuses t.answer ≡ true → (t.core ≡ k) × (t.bytes ≡ m)) k p m o
     (λ n g l e. (refl, refl))
     (λ g l e. clash (sym e))
     (λ z v d l e. clash (sym e))

@@ -5,7 +5,7 @@ use Rattle.basis.specs.Pick.{pick}
 use Rattle.instruction.specs.Decode.{decode_of}
 use Rattle.cores.specs.declared.Core.{Core}
 use Rattle.cores.specs.State.{Out, out, with_busy, with_inhibit}
-use Rattle.cores.specs.Flow.{opAt}
+use Rattle.cores.specs.Flow.{op_at}
 use Rattle.execute.specs.Needs.{refusal, push_needs, needs, fetched, with_fetch}
 use Rattle.execute.specs.Execute.{behind, executed, effect_of, done_of}
 use Rattle.tick.specs.declared.Offer.{Offer}
@@ -24,7 +24,7 @@ granted n plan = pick (eqb n 0) plan (Refuse n)
 -- step 5: "Fetch, decode"
 unfoldable pub step_plan : Core → List ℕ → List ℕ → Plan
 step_plan k p m =
-    let i = opAt decode_of p k.pc in
+    let i = op_at decode_of p k.pc in
     granted (refusal (with_fetch (fetched p k.pc i) (needs decode_of (behind k) i p m))) (Execute i)
 
 -- steps 3 to 5, by the vector that is due. "4. PC 65,535: answer end."

@@ -5,7 +5,7 @@ use Rattle.instruction.specs.Decode.{decode_of}
 use Rattle.instruction.specs.declared.Instruction.{Instruction}
 use Rattle.cores.specs.declared.Core.{Core}
 use Rattle.cores.specs.State.{Out, out, with_pc, with_busy, with_inhibit, with_service, flag}
-use Rattle.cores.specs.Flow.{word_pushed, opAt}
+use Rattle.cores.specs.Flow.{word_pushed, op_at}
 use Rattle.execute.specs.Needs.{Needs, refusal, push_needs, needs, fetched, with_fetch}
 use Rattle.execute.specs.Execute.{Executed, executed}
 use Rattle.execute.specs.declared.Done.{Done}
@@ -101,7 +101,7 @@ module _ (decode : ℕ → ℕ → Instruction) where
   -- step 5: "Fetch, decode, add 1 to PC, execute." next is k with inhibit clear; k is handed back where the step is refused
   unfoldable pub stepped : Core → Core → List ℕ → List ℕ → Tick
   stepped k next p m =
-      let op = opAt decode p next.pc in
+      let op = op_at decode p next.pc in
       let behind = with_pc next (next.pc + 1) in
       let needed = with_fetch (fetched p next.pc op) (needs decode behind op p m) in
       decided needed k m (executed_tick (executed decode behind op p m))

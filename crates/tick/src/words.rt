@@ -1,13 +1,13 @@
 // The words of the instruction at a PC.
 ghost use Rattle.std.specs.Prelude.{◌≡◌};
 ghost use Rattle.instruction.specs.Decode.{decode_of};
-ghost use Rattle.cores.specs.Flow.{opAt};
+ghost use Rattle.cores.specs.Flow.{op_at};
 ghost use Rattle.execute.specs.Needs.{fetched};
 
 use instruction::Instruction;
 
 pub(crate) fn fetch(program: &[u8], pc: u16) -> Instruction
-    ensures { result ≡ opAt decode_of program.now pc }
+    ensures { result ≡ op_at decode_of program.now pc }
 {
     let opcode = memory::get_progmem(program, pc as u32);
     let prefetch = memory::get_progmem(program, pc as u32 + 1);

@@ -31,14 +31,14 @@ vals k = val k ∷ []
 module _ {M : Type 1} {𝓤 : Ura M} (𝓛 : Logic 𝓤) (b : ℕ) where
   open 𝓛 use {H, A}
 
-  abbrev pub to-core : GName → Core → MutBor Core
-  to-core δ k = record { ref_ptr = (b, 0); ghost_name = δ; now = k }
+  abbrev pub to_core : GName → Core → MutBor Core
+  to_core δ k = record { ref_ptr = (b, 0); ghost_name = δ; now = k }
 
-  abbrev pub own-core : Lft → GName → Core → Fml
-  own-core κ δ k = (MutRef (named 0) κ K.the_row).own_val (to-core δ k) (vptr b 0 ∷ [])
+  abbrev pub own_core : Lft → GName → Core → Fml
+  own_core κ δ k = (MutRef (named 0) κ K.the_row).own_val (to_core δ k) (vptr b 0 ∷ [])
 
-  abbrev pub kept-core : Lft → GName → Fml
-  kept-core κ δ = flent κ (Body (mem K.the_row) b 0 δ)
+  abbrev pub kept_core : Lft → GName → Fml
+  kept_core κ δ = flent κ (Body (mem K.the_row) b 0 δ)
 
   lies : (k : Core) → Is K.the_row k (vals k) → ent 𝓤 (H.at full_share K'.mir b 0 (val k)) (sem 𝓛 (part_at K.the_row full_share k b 0))
   unfolding part_of
@@ -56,11 +56,11 @@ module _ {M : Type 1} {𝓤 : Ura M} (𝓛 : Logic 𝓤) (b : ℕ) where
       use1 𝓛 (‵ (fat full_share K'.mir b 0 (val k))) (𝓛.laws.raw_at full_share K'.mir b 0 (val k)) $ check ! is $ done !))
 
   pub lends_core : (κ : Lft) (k : Core) → Is K.the_row k (vals k)
-      → ent 𝓤 (H.at full_share K'.mir b 0 (val k)) (H.⇛ (ex 𝓤 (λ (δ : GName). sep 𝓤 (sem 𝓛 (own-core κ δ k)) (sem 𝓛 (kept-core κ δ)))))
+      → ent 𝓤 (H.at full_share K'.mir b 0 (val k)) (H.⇛ (ex 𝓤 (λ (δ : GName). sep 𝓤 (sem 𝓛 (own_core κ δ k)) (sem 𝓛 (kept_core κ δ)))))
   lends_core κ k is = via 𝓤 (sem 𝓛 (part_at K.the_row full_share k b 0)) (lies k is) (lends_ref 𝓛 K.the_row (named 0) κ k b 0)
 
   pub core_back : (κ : Lft) (δ : GName) (k : Core)
-      → ent 𝓤 (sep 𝓤 (A.dead κ) (sep 𝓤 (sem 𝓛 (kept-core κ δ)) (A.res δ ((K.the_row).coded.code k)))) (H.⇛ (guard 𝓤 (Is K.the_row k (vals k)) (H.at full_share K'.mir b 0 (val k))))
+      → ent 𝓤 (sep 𝓤 (A.dead κ) (sep 𝓤 (sem 𝓛 (kept_core κ δ)) (A.res δ ((K.the_row).coded.code k)))) (H.⇛ (guard 𝓤 (Is K.the_row k (vals k)) (H.at full_share K'.mir b 0 (val k))))
   core_back κ δ k =
-      qed 𝓛 (‵ (fdead κ) ∷ ‵ (kept-core κ δ) ∷ ‵ (fres δ ((K.the_row).coded.code k)) ∷ []) ∵ updating ! $
+      qed 𝓛 (‵ (fdead κ) ∷ ‵ (kept_core κ δ) ∷ ‵ (fres δ ((K.the_row).coded.code k)) ∷ []) ∵ updating ! $
       use3 𝓛 (later (‵ (part_at K.the_row full_share k b 0))) (ref_back 𝓛 K.the_row κ δ k b 0) $ await ! tt $ at_once ! $ by ! (lay k)

@@ -28,7 +28,7 @@ use Rattle.tick.specs.declared.Offer.{Offer}
 use Rattle.tick.specs.contracts.Offer as O
 use Rattle.tick.proofs.Offer.TheLaws as O'
 use Rattle.tick.specs.contracts.tick_in_place as tick
-use Rattle.ticking.proofs.LentCore.{to-core, own-core}
+use Rattle.ticking.proofs.LentCore.{to_core, own_core}
 
 abbrev pub Tick : {M : Type 1} {𝓤 : Ura M} (𝓛 : Logic 𝓤) (at_mem : Memory → SProp 𝓤) (run : Routine → Fun 𝓤) → Contract 𝓤
 Tick 𝓛 at_mem run = triple_of 𝓛 tick.signature (tick.spec 𝓛 at_mem run)
@@ -46,14 +46,14 @@ module _ {M : Type 1} {𝓤 : Ura M} (𝓛 : Logic 𝓤) (at_mem : Memory → SP
   abbrev ov : Val
   ov = EL.val O.the_type O'.the_laws off
 
-  abbrev data-at : Bor (List ℕ)
-  data-at = record { ref_ptr = (b, o); ghost_name = ε; now = zs }
+  abbrev data_at : Bor (List ℕ)
+  data_at = record { ref_ptr = (b, o); ghost_name = ε; now = zs }
 
   abbrev TArg : Type 0
   TArg = Bor Core × (Bor (List ℕ) × (Bor (List ℕ) × (Offer × Unit {0})))
 
   abbrev pub tx : TArg
-  tx = (to-core 𝓛 c δ k, (p, (data-at, (off, tt))))
+  tx = (to_core 𝓛 c δ k, (p, (data_at, (off, tt))))
 
   abbrev pub tκs : Lfts 3
   tκs = (α ∷ [], (κ, (β ∷ [], tt)))
@@ -62,10 +62,10 @@ module _ {M : Type 1} {𝓤 : Ura M} (𝓛 : Logic 𝓤) (at_mem : Memory → SP
   to_tick = ((tκs, (full_share, (q, (full_share, tt))), tt, tx, (vptr c 0 ∷ [], (pv ∷ [], (mv ∷ [], (ov ∷ [], tt))))), tt)
 
   pub goes_tick : Is O.the_row off (ov ∷ [])
-      → ent 𝓤 (sep 𝓤 (A.lft (α ∷ []) full_share) (sep 𝓤 (A.lft κ q) (sep 𝓤 (A.lft (β ∷ []) full_share) (sep 𝓤 (sem 𝓛 (own-core 𝓛 c (α ∷ []) δ k)) (sep 𝓤 (sem 𝓛 ((ShrSlice (named 1) κ u8).own_val p (pv ∷ []))) (sem 𝓛 ((MutSlice (named 2) (β ∷ []) u8).own_val (data-at) (mv ∷ []))))))))
+      → ent 𝓤 (sep 𝓤 (A.lft (α ∷ []) full_share) (sep 𝓤 (A.lft κ q) (sep 𝓤 (A.lft (β ∷ []) full_share) (sep 𝓤 (sem 𝓛 (own_core 𝓛 c (α ∷ []) δ k)) (sep 𝓤 (sem 𝓛 ((ShrSlice (named 1) κ u8).own_val p (pv ∷ []))) (sem 𝓛 ((MutSlice (named 2) (β ∷ []) u8).own_val (data_at) (mv ∷ []))))))))
       ((Tick 𝓛 at_mem run).pre to_tick)
   goes_tick io =
-      qed 𝓛 (‵ (flft (α ∷ []) full_share) ∷ ‵ (flft κ q) ∷ ‵ (flft (β ∷ []) full_share) ∷ ‵ (own-core 𝓛 c (α ∷ []) δ k) ∷ ‵ ((ShrSlice (named 1) κ u8).own_val p (pv ∷ [])) ∷ ‵ ((MutSlice (named 2) (β ∷ []) u8).own_val (data-at) (mv ∷ [])) ∷ []) ∵
+      qed 𝓛 (‵ (flft (α ∷ []) full_share) ∷ ‵ (flft κ q) ∷ ‵ (flft (β ∷ []) full_share) ∷ ‵ (own_core 𝓛 c (α ∷ []) δ k) ∷ ‵ ((ShrSlice (named 1) κ u8).own_val p (pv ∷ [])) ∷ ‵ ((MutSlice (named 2) (β ∷ []) u8).own_val (data_at) (mv ∷ [])) ∷ []) ∵
       nothing ! $ move ! (3 ∷ 0 ∷ []) $ join ! $ move ! (2 ∷ 0 ∷ []) $ join ! $ move ! (1 ∷ 0 ∷ []) $ join ! $
       -- [the tokens; the core; program; data]
       nothing ! $ owned ! O.the_row (Is O.the_row) (EL.makes O.the_type O'.the_plain 𝓛) off _ io $ fjoin ! $

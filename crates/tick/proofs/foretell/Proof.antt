@@ -11,4 +11,4 @@ foretell_spec =
     (tie.spec
     (λ c κs. search rules)
     (λ c κs. search rules)
-    (λ c. let a = c.before.before.before.before.args in answered a.core a.program.now a.«data».now a.offer c.before.decide.ensures c.answer.ensures))
+    (λ c. let a = c.args in answered a.core a.program.now a.«data».now a.offer c.decide.ensures c.answer.ensures))

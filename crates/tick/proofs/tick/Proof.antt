@@ -13,9 +13,9 @@ tick_spec =
     (λ c κs. search rules)
     (λ c κs. search rules)
     (λ c. search rules)
-    (λ c. let carried = c.before.before.before in
+    (λ c. let carried = c in
     let decided = carried.before.before in
-    let a = decided.before.before.before.before.args in
-    let plan = decided.decide.ensures in
-    let next = left a.core a.program.now a.«data».now a.offer plan carried.carry_out.ensures in
+    let a = decided.args in
+    let plan = decided.decide-plan.ensures in
+    let next = left a.core a.program.now a.«data».now a.offer plan carried.carry_out-next.ensures in
     record { answer = answered a.core a.program.now a.«data».now a.offer plan c.answer.ensures; core = next.core; bytes = next.bytes }))

@@ -59,8 +59,8 @@ use Rattle.tick.proofs.tick_in_place.Symbol.{name as #tick}
 use Rattle.tick.proofs.tick_in_place.Met as tick-thm
 use Rattle.ticking.specs.After.{after_of}
 use Rattle.ticking.proofs.Ticks.{none_left, some_left, one_fewer}
-use Rattle.ticking.proofs.LentCore.{val, vals, own-core, kept-core, lends_core, core_back}
-use Rattle.ticking.proofs.LentData as lent-data
+use Rattle.ticking.proofs.LentCore.{val, vals, own_core, kept_core, lends_core, core_back}
+use Rattle.ticking.proofs.LentData as lent_data
 use Rattle.ticking.proofs.Locals as locals
 use Rattle.ticking.proofs.Locals.{word, to_program, to_data, core_lent, byte_lent, data_lent}
 use Rattle.ticking.proofs.States as states
@@ -85,14 +85,14 @@ module _ {M : Type 1} {𝓤 : Ura M} (𝓛 : Logic 𝓤) (at_mem : Memory → SP
     (κ κ₁ : Lft) (q q₁ : Share) (h : Core) (p : MutBor (List ℕ)) (b o : ℕ) (γ : GName) (ms : List ℕ) (off : Offer) (n : ℕ) where
   open 𝓛 use {H, A}
 
-  abbrev at-list : GName → List ℕ → MutBor (List ℕ)
-  at-list δ zs = record { ref_ptr = (b, o); ghost_name = δ; now = zs }
+  abbrev at_list : GName → List ℕ → MutBor (List ℕ)
+  at_list δ zs = record { ref_ptr = (b, o); ghost_name = δ; now = zs }
 
   abbrev Arg : Type 0
   Arg = Core × (Bor (List ℕ) × (Bor (List ℕ) × (Offer × (ℕ × Unit {0}))))
 
   abbrev x : Arg
-  x = (h, (p, (at-list γ ms, (off, (n, tt)))))
+  x = (h, (p, (at_list γ ms, (off, (n, tt)))))
 
   abbrev pv : Val
   pv = slice_val p.ref_ptr (length p.now)
@@ -116,13 +116,13 @@ module _ {M : Type 1} {𝓤 : Ura M} (𝓛 : Logic 𝓤) (at_mem : Memory → SP
   Post = (walk_of 𝓛 after.ended stayed (after.clauses 𝓛 at_mem run)).post bound
 
   -- the bytes of data, lent for κ' under the name δ
-  abbrev own-data : Lft → GName → List ℕ → Fml
-  own-data κ' δ zs = (MutSlice (named 1) κ' u8).own_val (at-list δ zs) (mv ∷ [])
+  abbrev own_data : Lft → GName → List ℕ → Fml
+  own_data κ' δ zs = (MutSlice (named 1) κ' u8).own_val (at_list δ zs) (mv ∷ [])
 
   exits : (k : Core) (zs : List ℕ) → Is K.the_row k (vals k) → length zs ≡ length ms → record { core = k; bytes = zs } ≡ after_of n h p.now ms off
-      → ent 𝓤 (sep 𝓤 (A.lft κ q) (sep 𝓤 (A.lft κ₁ q₁) (sem 𝓛 (own-data κ₁ γ zs)))) (Post (val k))
+      → ent 𝓤 (sep 𝓤 (A.lft κ q) (sep 𝓤 (A.lft κ₁ q₁) (sem 𝓛 (own_data κ₁ γ zs)))) (Post (val k))
   exits k zs is e r =
-      qed 𝓛 (‵ (flft κ q) ∷ ‵ (flft κ₁ q₁) ∷ ‵ (own-data κ₁ γ zs) ∷ []) ∵
+      qed 𝓛 (‵ (flft κ q) ∷ ‵ (flft κ₁ q₁) ∷ ‵ (own_data κ₁ γ zs) ∷ []) ∵
       suffices ! _ (ends_at 𝓛 after.ended stayed (after.clauses 𝓛 at_mem run) bound (val k) k (tt, (tt, (zs, (tt, (tt, tt))))) (tt, (tt, (e, (tt, (tt, tt)))))) $ says ! r $
       nothing ! $ move ! (2 ∷ 0 ∷ []) $ join ! $ move ! (1 ∷ 0 ∷ []) $ join ! $ frame ! $
       nothing ! $ nothing ! $ fjoin ! $ nothing ! $ fjoin ! $ move ! (1 ∷ 0 ∷ []) $ fjoin ! $ nothing ! $ fjoin ! $ nothing ! $ fjoin ! $
@@ -139,7 +139,7 @@ module _ {M : Type 1} {𝓤 : Ura M} (𝓛 : Logic 𝓤) (at_mem : Memory → SP
     -- what is had between two ticks
     abbrev At : State → List (Item 𝓤)
     At s = ‵ (fat full_share K'.mir l₆ 0 (val s.core)) ∷ ‵ (fat full_share word l₇ 0 (vint w32 s.left)) ∷ ‵ (froom ty_bool l₈ 0) ∷ ‵ (froom N'.mir l₉ 0) ∷ ‵ (froom core_lent l₁₀ 0) ∷ ‵ (froom byte_lent l₁₁ 0) ∷ ‵ (froom data_lent l₁₂ 0)
-        ∷ ‵ (own-data κ₁ γ s.bytes) ∷ ‵ (flft κ₁ q₁) ∷ ‵ (flft κ q) ∷ ‵ ((ShrSlice (named 0) κ u8).own_val p (pv ∷ []))
+        ∷ ‵ (own_data κ₁ γ s.bytes) ∷ ‵ (flft κ₁ q₁) ∷ ‵ (flft κ q) ∷ ‵ ((ShrSlice (named 0) κ u8).own_val p (pv ∷ []))
         ∷ ‵ (fat full_share K'.mir l₁ 0 (val h)) ∷ ‵ (fat full_share to_program l₂ 0 pv) ∷ ‵ (fat full_share to_data l₃ 0 mv) ∷ ‵ (fat full_share O'.mir l₄ 0 ov) ∷ ‵ (fat full_share word l₅ 0 (vint w32 n)) ∷ ‵ (froom K'.mir l₀ 0) ∷ locals.dying 𝓤 l₀ l₁ l₂ l₃ l₄ l₅ l₆ l₇ l₈ l₉ l₁₀ l₁₁ l₁₂
 
     -- a turn's postcondition: fewer ticks are left, or the loop is left and the rest of the body runs
@@ -157,8 +157,8 @@ module _ {M : Type 1} {𝓤 : Ura M} (𝓛 : Logic 𝓤) (at_mem : Memory → SP
         move ! (0 ∷ 10 ∷ []) $ free1 ! $ move ! (0 ∷ 9 ∷ []) $ free1 ! $ move ! (0 ∷ 8 ∷ []) $ free1 ! $ move ! (0 ∷ 7 ∷ []) $ free1 ! $ move ! (0 ∷ 6 ∷ []) $ free1 ! $ move ! (0 ∷ 5 ∷ []) $ free1 ! $ free0 ! $
         keep ! (2 ∷ 1 ∷ 0 ∷ []) $ by ! (exits s.core s.bytes s.is s.as_long (none_left s.left none s.core p.now s.bytes off (after_of n h p.now ms off) s.leads))
 
-    abbrev program-own : Fml
-    program-own = (ShrSlice (named 0) κ u8).own_val p (pv ∷ [])
+    abbrev program_own : Fml
+    program_own = (ShrSlice (named 0) κ u8).own_val p (pv ∷ [])
 
     ticks : (s : State) → ltb 0 s.left ≡ true → Sq 𝓛 (At s) (runs 𝓣.C 𝓣.Λ En mirs.turn-1 (any_q (Turned s)))
     unfolding after_turn
@@ -168,11 +168,11 @@ module _ {M : Type 1} {𝓤 : Ura M} (𝓛 : Logic 𝓤) (at_mem : Memory → SP
         assigns ! (addr ! (from ! (stop !))) (from ! (stop !)) (init ! 4 refl (tt, tt)) $
         assigns ! (addr ! (from ! (fld ! refl (hop ! (look_in ! 13 (sub ! 0 refl (whole !))) (stop !))))) (from ! (stop !)) (init ! 5 refl (tt, tt)) $
         assigns ! (agg ! (and_then ! (load ! (from ! (stop !)) (look ! 5 refl)) (and_then ! (load ! (from ! (fld ! refl (stop !))) (look_in ! 13 (sub ! 1 refl (whole !)))) (no_more !)))) (from ! (stop !)) (init ! 6 refl (tt, (tt, (record { fits = room.0 }, tt)))) $
-        move ! (10 ∷ []) $ use1 𝓛 (‵ program-own ⊛ ‵ program-own) ((shr_slice_copy 𝓛 (named 0) κ u8).twice p (pv ∷ [])) $ split ! $
+        move ! (10 ∷ []) $ use1 𝓛 (‵ program_own ⊛ ‵ program_own) ((shr_slice_copy 𝓛 (named 0) κ u8).twice p (pv ∷ [])) $ split ! $
         -- the core and the bytes of data are lent, each for a lifetime of the call
         lft_new ! tt (λ α. lft_new ! tt (λ β. move ! (4 ∷ []) $
-        use1 𝓛 (later (some (λ (δ : GName). ‵ (own-core 𝓛 l₆ (α ∷ []) δ s.core) ⊛ ‵ (kept-core 𝓛 l₆ (α ∷ []) δ)))) (lends_core 𝓛 l₆ (α ∷ []) s.core s.is) $ await ! tt $ pick ! (λ δ. split ! $ move ! (12 ∷ 13 ∷ []) $
-        use2 𝓛 (later (some (λ (ε : GName). ‵ (own-data (β ∷ []) ε s.bytes) ⊛ ‵ (lent-data.LentAgain u8 κ₁ (β ∷ []) q₁ γ b o ε s.bytes)))) (lent-data.lends u8 κ₁ (β ∷ []) q₁ γ b o 𝓛 (named 1) (named 1) s.bytes (length ms) s.as_long) $ await ! tt $ pick ! (λ ε. split ! $
+        use1 𝓛 (later (some (λ (δ : GName). ‵ (own_core 𝓛 l₆ (α ∷ []) δ s.core) ⊛ ‵ (kept_core 𝓛 l₆ (α ∷ []) δ)))) (lends_core 𝓛 l₆ (α ∷ []) s.core s.is) $ await ! tt $ pick ! (λ δ. split ! $ move ! (12 ∷ 13 ∷ []) $
+        use2 𝓛 (later (some (λ (ε : GName). ‵ (own_data (β ∷ []) ε s.bytes) ⊛ ‵ (lent_data.LentAgain u8 κ₁ (β ∷ []) q₁ γ b o ε s.bytes)))) (lent_data.lends u8 κ₁ (β ∷ []) q₁ γ b o 𝓛 (named 1) (named 1) s.bytes (length ms) s.as_long) $ await ! tt $ pick ! (λ ε. split ! $
         -- [data; what is kept of it; the core; what is kept of it; the tokens of β and α; program, twice; _7; _8; room for _9; _10; _11; _12; the token of κ; _1; ..; _5; room for _0; ..]
         move ! (6 ∷ 0 ∷ []) $ join ! $ move ! (2 ∷ 0 ∷ []) $ join ! $ move ! (3 ∷ 0 ∷ []) $ join ! $ move ! (11 ∷ 0 ∷ []) $ join ! $ move ! (3 ∷ 0 ∷ []) $ join ! $
         use1 𝓛 (raw ((Tick 𝓛 at_mem run).pre (to_tick 𝓛 at_mem run κ q p b o (length ms) off l₆ α β δ ε s.core s.bytes))) (goes_tick 𝓛 at_mem run κ q p b o (length ms) off l₆ α β δ ε s.core s.bytes io) $
@@ -189,7 +189,7 @@ module _ {M : Type 1} {𝓤 : Ura M} (𝓛 : Logic 𝓤) (at_mem : Memory → SP
         split ! $ lft_end ! tt $ move ! (0 ∷ 6 ∷ 4 ∷ []) $
         use3 𝓛 (later (given (Is K.the_row ws.0 (vals ws.0)) (‵ (fat full_share K'.mir l₆ 0 (val ws.0))))) (core_back 𝓛 l₆ (α ∷ []) δ ws.0) $ await ! tt $ learn ! (λ is_core.
         move ! (1 ∷ []) $ split ! $ move ! (1 ∷ []) $ split ! $ lft_end ! tt $ move ! (0 ∷ 6 ∷ 4 ∷ []) $
-        use3 𝓛 (later (‵ (own-data κ₁ γ ws.1.1.0) ⊛ ‵ (flft κ₁ q₁))) (lent-data.back u8 κ₁ (β ∷ []) q₁ γ b o 𝓛 (named 1) (named 1) s.bytes (length ms) s.as_long ε ws.1.1.0 room l) $ await ! tt $ split ! $
+        use3 𝓛 (later (‵ (own_data κ₁ γ ws.1.1.0) ⊛ ‵ (flft κ₁ q₁))) (lent_data.back u8 κ₁ (β ∷ []) q₁ γ b o 𝓛 (named 1) (named 1) s.bytes (length ms) s.as_long ε ws.1.1.0 room l) $ await ! tt $ split ! $
         -- [data; the token of κ₁; true; the token of κ; _6; true; program; _7; ..; _12; _1; ..; _5; room for _0; ..]
         assigns_last ! (bin ! (load ! (from ! (stop !)) (look ! 7 refl)) (lit ! tt) (some_left s.left more)) (from ! (stop !)) (store ! 7 refl (tt, record { fits = (next s more a ws.0 ws.1.1.0 is_core l t).fits })) $
         forget ! 8 refl $ forget ! 9 refl $ forget ! 10 refl $ forget ! 11 refl $ forget ! 12 refl $

@@ -14,4 +14,4 @@ data_bit_is_spec =
     (λ c κs. search rules)
     (λ c κs. search rules)
     (λ c κs. search rules)
-    (λ c. rw (c.bit.ensures, c.before.b3.ensures, c.before.before.read.ensures, c.before.before.before.has.ensures, c.before.before.before.before.A5.ensures)))
+    (λ c. rw (c.bit-bitval.ensures, c.b3.ensures, c.read.ensures, c.has-there.ensures, c.A5-A.ensures)))

@@ -14,4 +14,4 @@ equal_spec =
     (λ c κs. search rules)
     (λ c. search rules)
     (λ c κs. search rules)
-    (λ c. rw (c.read2.ensures, c.before.r5.ensures, c.before.before.read.ensures, c.before.before.before.d5.ensures)))
+    (λ c. rw (c.read-2.ensures, c.r5.ensures, c.read.ensures, c.d5.ensures)))

@@ -10,4 +10,4 @@ flag_is_spec =
     (tie.spec
     (λ c κs. search rules)
     (λ c κs. search rules)
-    (λ c. rw (c.bit.ensures, c.before.b3.ensures)))
+    (λ c. rw (c.bit.ensures, c.b3.ensures)))

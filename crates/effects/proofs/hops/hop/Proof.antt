@@ -11,5 +11,5 @@ hop_spec =
     (λ c κs. search rules)
     (λ c κs. search rules)
     (λ c κs. search rules)
-    (λ c. rw (c.before.before.before.if1.true, c.wrapping-add-u16.ensures, c.before.signed.ensures, c.before.before.k7.ensures))
-    (λ c. rw c.if1.false))
+    (λ c. rw (c.if-taken.true, c.wrapping_add_u16.ensures, c.signed.ensures, c.k7.ensures))
+    (λ c. rw c.if-taken.false))

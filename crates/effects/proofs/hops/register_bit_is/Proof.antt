@@ -13,4 +13,4 @@ register_bit_is_spec =
     (λ c κs. search rules)
     (λ c κs. search rules)
     (λ c κs. search rules)
-    (λ c. rw (c.bit.ensures, c.before.b3.ensures, c.before.before.read.ensures, c.before.before.before.d5.ensures)))
+    (λ c. rw (c.bit.ensures, c.b3.ensures, c.read.ensures, c.d5.ensures)))

@@ -13,5 +13,5 @@ words_over_spec =
     (λ c κs. search rules)
     (λ c. search rules)
     (λ c. let low = one_le c.has_second.result in omega (arith, low))
-    (λ c. rw (c.before.before.if1.true, c.has_second.ensures, c.before.get_progmem.ensures))
-    (λ c. rw c.if1.false))
+    (λ c. rw (c.if-taken.true, c.has_second.ensures, c.get_progmem.ensures))
+    (λ c. rw c.if-taken.false))

@@ -18,4 +18,4 @@ pop_word_spec =
     (λ c. search rules)
     (λ c. search rules)
     (λ c. search rules)
-    (λ c. rw (c.read2.ensures, c.before.wrapping-add-u162.ensures, c.before.before.read.ensures, c.before.before.before.wrapping-add-u16.ensures)))
+    (λ c. rw (c.read-bl.ensures, c.wrapping_add_u16-2.ensures, c.read-bh.ensures, c.wrapping_add_u16.ensures)))

@@ -20,8 +20,8 @@ push_word_spec =
     (λ c κs. search rules)
     (λ c. search rules)
     (λ c.
-    let w = c.before.before.before in
-    let sp = w.before.before.before.before.before.before.before.before.args.sp in
-    let two : c.wrapping-sub-u162.result ≡ down sp 2 = omega arith in
-    let one : w.before.before.wrapping-sub-u16.result ≡ down sp 1 = omega arith in
-    (two, rw (w.write2.ensures, one, w.before.before.before.before.before.write.ensures))))
+    let w = c in
+    let sp = w.args.sp in
+    let two : c.wrapping_sub_u16.result ≡ down sp 2 = omega arith in
+    let one : w.wrapping_sub_u16-below.result ≡ down sp 1 = omega arith in
+    (two, rw (w.write-2.ensures, one, w.write.ensures))))

@@ -20,4 +20,4 @@ ld_spec =
     (λ c κs. search rules)
     (λ c κs. search rules)
     (λ c. search rules)
-    (λ c. rw (c.load-waits.ensures, c.before.before.before.set-word-if2.ensures, c.before.before.before.before.wrapping-add-u16.ensures, c.before.before.before.before.before.before.before.before.write.ensures, c.before.before.before.before.before.before.before.before.before.d5.ensures, c.before.before.before.before.before.before.before.before.before.before.before.get_data_space.ensures, c.before.before.before.before.before.before.before.before.before.before.before.before.before.before.set-word-if.ensures, c.before.before.before.before.before.before.before.before.before.before.before.before.before.before.before.before.pointed.ensures) (refl, refl)))
+    (λ c. rw (c.load_waits.ensures, c.set_word_if-2.ensures, c.wrapping_add_u16.ensures, c.write.ensures, c.d5.ensures, c.get_data_space-value.ensures, c.set_word_if.ensures, c.pointed-address.ensures) (refl, refl)))

@@ -13,4 +13,4 @@ load_to_spec =
     (λ c κs. search rules)
     (λ c κs. search rules)
     (λ c. search rules)
-    (λ c. rw (c.before.before.write.ensures, c.before.before.before.get_data_space.ensures, c.before.before.before.before.d5.ensures)))
+    (λ c. rw (c.write.ensures, c.get_data_space.ensures, c.d5.ensures)))

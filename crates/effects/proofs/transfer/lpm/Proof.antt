@@ -16,4 +16,4 @@ lpm_spec =
     (λ c κs. search rules)
     (λ c κs. search rules)
     (λ c. search rules)
-    (λ c. rw (c.before.before.set-word-if.ensures, c.before.before.before.wrapping-add-u16.ensures, c.before.before.before.before.before.before.before.write.ensures, c.before.before.before.before.before.before.before.before.read.ensures, c.before.before.before.before.before.before.before.before.before.before.read_word.ensures) (refl, refl)))
+    (λ c. rw (c.set_word_if.ensures, c.wrapping_add_u16.ensures, c.write.ensures, c.read.ensures, c.read_word-address.ensures) (refl, refl)))

@@ -15,7 +15,7 @@ pointed_spec =
     (λ c κs. search rules)
     (λ c κs. search rules)
     (λ c.
-    let at = c.before.before.read_word.result in
-    let e : c.wrapping-sub-u16.result ≡ down at 1 = omega arith in
-    rw (c.before.if1.true, ← c.before.before.read_word.ensures) e)
-    (λ c. rw c.if1.false c.before.read_word.ensures))
+    let at = c.read_word-address.result in
+    let e : c.wrapping_sub_u16.result ≡ down at 1 = omega arith in
+    rw (c.if-dec.true, ← c.read_word-address.ensures) e)
+    (λ c. rw c.if-dec.false c.read_word-address.ensures))

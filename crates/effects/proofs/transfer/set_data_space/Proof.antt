@@ -18,9 +18,9 @@ set_data_space_spec =
     (λ c κs. search rules)
     (λ c κs. search rules)
     (λ c κs. search rules)
-    (λ c. rw (c.before.match.keys1, c.leaves.ensures) (refl, refl))
-    (λ c. rw (c.before.match.keys2, c.leaves2.ensures) (refl, refl))
-    (λ c. rw (c.before.match.keys3, c.leaves3.ensures) (refl, refl))
+    (λ c. rw (c.in-63.is, c.leaves.ensures) (refl, refl))
+    (λ c. rw (c.in-62.is, c.leaves-in-62.ensures) (refl, refl))
+    (λ c. rw (c.in-61.is, c.leaves-in-61.ensures) (refl, refl))
     (λ c. search rules)
-    (λ c. let e = c.before.before.before.before.before.match.rest in
-    rw (sreg_elsewhere _ e, sp_elsewhere _ e, bytes_elsewhere _ e, c.leaves4.ensures) (refl, c.before.before.before.write.ensures)))
+    (λ c. let e = (search rules) in
+    rw (sreg_elsewhere _ e, sp_elsewhere _ e, bytes_elsewhere _ e, c.leaves-in_default.ensures) (refl, c.write.ensures)))

@@ -13,4 +13,4 @@ set_io_bit_spec =
     (λ c κs. search rules)
     (λ c κs. search rules)
     (λ c. search rules)
-    (λ c. rw (c.before.before.set-bit.ensures, c.before.before.before.b3.ensures, c.before.before.before.before.A5.ensures)))
+    (λ c. rw (c.set_bit.ensures, c.b3.ensures, c.A5.ensures)))

@@ -19,4 +19,4 @@ st_spec =
     (λ c κs. search rules)
     (λ c. search rules)
     (λ c. search rules)
-    (λ c. rw (c.leaves.ensures, c.before.store_waits.ensures, c.before.before.before.before.set-word-if2.ensures, c.before.before.before.before.before.wrapping-add-u16.ensures, c.before.before.before.before.before.before.before.before.before.store-from.ensures.0, c.before.before.before.before.before.before.before.before.before.store-from.ensures.1, c.before.before.before.before.before.before.before.before.before.before.before.before.before.before.set-word-if.ensures, c.before.before.before.before.before.before.before.before.before.before.before.before.before.before.before.before.pointed.ensures) (refl, (refl, refl))))
+    (λ c. rw (c.leaves.ensures, c.store_waits.ensures, c.set_word_if-2.ensures, c.wrapping_add_u16.ensures, c.store_from-stored.ensures.0, c.store_from-stored.ensures.1, c.set_word_if.ensures, c.pointed-address.ensures) (refl, (refl, refl))))

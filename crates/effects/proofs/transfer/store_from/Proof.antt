@@ -13,4 +13,4 @@ store_from_spec =
     (λ c κs. search rules)
     (λ c κs. search rules)
     (λ c. search rules)
-    (λ c. rw (c.before.before.set_data_space.ensures.0, c.before.before.set_data_space.ensures.1, c.before.before.before.before.read.ensures, c.before.before.before.before.before.d5.ensures) (refl, refl)))
+    (λ c. rw (c.set_data_space.ensures.0, c.set_data_space.ensures.1, c.read.ensures, c.d5.ensures) (refl, refl)))

@@ -4,7 +4,7 @@ use Rattle.std.proofs.Common.{◌+◌, sym, arith, rules, lt-ltb}
 use Rattle.basis.specs.Bit.{one}
 use Rattle.basis.proofs.Bits.{one_le}
 use Rattle.instruction.specs.Decode.{decode_of}
-use Rattle.cores.specs.Flow.{twoAt}
+use Rattle.cores.specs.Flow.{two_at}
 use Rattle.execute.proofs.lack.skip_has_room.Statement.{statement}
 use Rattle.execute.proofs.lack.skip_has_room.Tie as tie
 
@@ -13,7 +13,7 @@ skip_has_room_spec =
     tie.close
     (tie.spec
     (λ c. let a = c.args in
-    let two = twoAt decode_of a.core a.program.now in
+    let two = two_at decode_of a.core a.program.now in
     sym (lt-ltb (a.core.pc + one two) 65535 (omega (arith, one_le two, c.if-core-lt65534.true))))
     (λ c. search rules)
     (λ c κs. search rules)

@@ -9,39 +9,39 @@ use Rattle.intel_hex.proofs.Pieces.{sum_start, sum_step, sum_all}
 use Rattle.intel_hex.proofs.put.sum.Statement.{statement}
 use Rattle.intel_hex.proofs.put.sum.Tie as tie
 
-abbrev invariant_loop : tie.invariant_loop
+abbrev invariant_loop : tie.invariant-loop-i
 invariant_loop s sum₀ i₀ sum i = (i ≤ length s) × ((sum < 256) × (sum ≡ sum_of (take i s) % 256))
 
-abbrev decreases_loop : tie.decreases_loop
+abbrev decreases_loop : tie.decreases-loop-i
 decreases_loop s sum₀ i₀ sum i = length s - i
 
-loop_holds : tie.Need-loop-init invariant_loop decreases_loop
+loop_holds : tie.Need-loop-i-init invariant_loop decreases_loop
 loop_holds c = (search rules, (search rules, sum_start c.args.s.now))
 
-shared_slice_read_sum : tie.Need-shared-slice-read-sum invariant_loop decreases_loop
+shared_slice_read_sum : tie.Need-bounds-s-i invariant_loop decreases_loop
 shared_slice_read_sum c = search rules
 
-cast_sum : tie.Need-overflow-cast-sum invariant_loop decreases_loop
-cast_sum c = let b = c.shared-slice-known.given c.before.before.loop.i in search rules
+cast_sum : tie.Need-overflow_cast-sum invariant_loop decreases_loop
+cast_sum c = let b = c.shared_slice_known-1.given c.loop-i.i in search rules
 
-add_sum : tie.Need-overflow-add-sum invariant_loop decreases_loop
-add_sum c = let b = c.shared-slice-known.given c.before.before.loop.i in search rules
+add_sum : tie.Need-overflow_add-sum invariant_loop decreases_loop
+add_sum c = let b = c.shared_slice_known-1.given c.loop-i.i in search rules
 
-add_i : tie.Need-overflow-add-i invariant_loop decreases_loop
+add_i : tie.Need-overflow_add-i invariant_loop decreases_loop
 add_i c = search rules
 
-loop_less : tie.Need-loop-smaller invariant_loop decreases_loop
+loop_less : tie.Need-loop-i-smaller invariant_loop decreases_loop
 loop_less c = search rules
 
-loop_again : tie.Need-loop-preserved invariant_loop decreases_loop
+loop_again : tie.Need-loop-i-preserved invariant_loop decreases_loop
 loop_again c =
     let l = c.before.before in
-    let t = l.before.args.s.now in
-    let h : l.loop.i < length t = search rules in
-    (search rules, (search rules, sum_step t l.loop.i l.loop.sum h l.loop.invariant.1.1))
+    let t = l.args.s.now in
+    let h : l.loop-i.i < length t = search rules in
+    (search rules, (search rules, sum_step t l.loop-i.i l.loop-i.sum h l.loop-i.invariant.1.1))
 
 returns : tie.Need-returns invariant_loop decreases_loop
-returns c = let l = c.before in l.loop.invariant.1.1 ∙ sum_all l.before.args.s.now l.loop.i c.loop-test.false
+returns c = let l = c.before in l.loop-i.invariant.1.1 ∙ sum_all l.args.s.now l.loop-i.i c.loop-i-test.false
 
 pub sum_spec : {M : Type 1} → statement M
 sum_spec =

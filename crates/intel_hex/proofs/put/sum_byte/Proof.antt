@@ -8,20 +8,20 @@ use Rattle.intel_hex.proofs.put.sum_byte.Tie as tie
 sum_requires : tie.Need-sum-requires
 sum_requires c κs = search rules
 
-sub_result : tie.Need-overflow-sub-result
+sub_result : tie.Need-overflow_sub-result
 sub_result c = omega (arith, c.sum.ensures)
 
 sum_requires_2 : tie.Need-sum-requires-2
 sum_requires_2 c κs = search rules
 
-sub_result_2 : tie.Need-overflow-sub-result-2
-sub_result_2 c = omega (arith, c.sum2.ensures, c.before.sum.ensures)
+sub_result_2 : tie.Need-overflow_sub-result-2
+sub_result_2 c = omega (arith, c.sum-2.ensures, c.sum.ensures)
 
-cast_result : tie.Need-overflow-cast-result
+cast_result : tie.Need-overflow_cast-result
 cast_result c = search rules
 
 returns : tie.Need-returns
-returns c = let a = c.sum2.ensures in let b = c.before.sum.ensures in omega arith
+returns c = let a = c.sum-2.ensures in let b = c.sum.ensures in omega arith
 
 pub sum_byte_spec : {M : Type 1} → statement M
 sum_byte_spec =

@@ -33,7 +33,7 @@ put_row_spec =
     let byte = second.before.before.before.before in
     let first = byte.before.before.before.before.before in
     let told = first.before.before.before in
-    rw told.row-1.given.1 (both (both first.put_hex2-at.ensures byte.put_text-at.ensures) second.put_hex2.ensures))
+    rw told.row-1.given.1 (both (both first.put_hex2-at.ensures byte.put_text-at.ensures) second.put_hex2-at.ensures))
     (λ c. search rules)
     (λ c.
     let said = c in

@@ -3,7 +3,7 @@
 use Rattle.std.proofs.Common.{◌≡◌, ℕ, ◌/◌, ◌%◌, ◌≤◌, eqb, List, length, get_or, take, drop, sym, ◌∙◌, arith, length-take-le, rules}
 use Rattle.basis.specs.Bytes.{Bytes}
 use Rattle.basis.proofs.Bits.{one_le}
-use Rattle.run.proofs.Stretched.{long, brief, long_kept, wentIn, sp_kept, front_bytes, stretched}
+use Rattle.run.proofs.Stretched.{long, brief, long_kept, went_in, sp_kept, front_bytes, stretched}
 use Rattle.run.proofs.over.stretch.Statement.{statement}
 use Rattle.run.proofs.over.stretch.Tie as tie
 
@@ -52,7 +52,7 @@ returns c =
     let f : Bytes rs = record { byte_lt = front_bytes rs (drop 32 s) (λ i. omega (arith, flagged.before.before.before.slice-known5.given i)) } in
     let pc = went.before.before.before.before.before.before.word_at.ensures in
     let sp = went.before.before.before.before.word-at2.ensures in
-    let w : wentIn s a.program.now a.«data».now a.on a.at a.budget g rs m' = rw (← pc, ← sp) went.go.ensures in
+    let w : went_in s a.program.now a.«data».now a.on a.at a.budget g rs m' = rw (← pc, ← sp) went.go.ensures in
     stretched s a.program.now a.«data».now a.on a.at a.budget g rs m' h start.requires.1 w n f (omega (arith, went.go.type-inv)) (omega (arith, went.go.type-inv)) (omega (arith, went.go.type-inv))
     left.leave.ensures.1 (rw (← flagged.flags.ensures) left.leave.ensures.0)
 

@@ -7,7 +7,7 @@ use Rattle.instruction.specs.Decode.{decode_of, d5, r5, q6, A5, A6, b3, k12, k22
 use Rattle.instruction.specs.declared.Instruction.TheVariants.{CALL, ICALL, RCALL, RET, RETI, SBIC, SBIS, IN, LDX, LDXinc, LDXdec, LDYinc, LDYdec, LDZinc, LDZdec, LDDY, LDDZ, LDS, LPM, LPMZ, LPMZinc, OUT, POP, PUSH, STX, STXdec, STXinc, STYdec, STYinc, STZdec, STZinc, STDY, STDZ, STS, CBI, SBI}
 use Rattle.memory.specs.Memory.{word_of, has_of, program_word_of}
 use Rattle.cores.specs.State.{with_regs, with_pc, with_sp, with_busy, with_inhibit, with_service, with_chip}
-use Rattle.cores.specs.Flow.{twoAt, data_bit_is}
+use Rattle.cores.specs.Flow.{two_at, data_bit_is}
 use Rattle.cores.specs.Transfer.{reach_of, pointed_of}
 use Rattle.registers.proofs.Found.{found}
 use Rattle.effects.specs.Parts.{stood, cored, pointed_at}
@@ -52,14 +52,14 @@ unfolding with_regs with_pc with_sp with_busy with_inhibit with_service with_chi
 on_SBIC c f low word go =
     let a = c.before.before.before.before.before.before.args in
     let e = rw c.before.A5.ensures at c.has.ensures in
-    rw (c.before.before.match.keys6, found 66) (by_skip a.regs.now a.pc a.sp a.program.now a.«data».now (SBIC (A5 a.opcode) (b3 a.opcode)) refl low word (data_bit_is a.«data».now (A5 a.opcode) (b3 a.opcode) false) (twoAt decode_of (cored a.regs.now (stood a.pc 0 0 0 false false) false) a.program.now) (has_of a.«data».now (A5 a.opcode)) (λ s inhibit service chip. refl) (sym e ∙ go))
+    rw (c.before.before.match.keys6, found 66) (by_skip a.regs.now a.pc a.sp a.program.now a.«data».now (SBIC (A5 a.opcode) (b3 a.opcode)) refl low word (data_bit_is a.«data».now (A5 a.opcode) (b3 a.opcode) false) (two_at decode_of (cored a.regs.now (stood a.pc 0 0 0 false false) false) a.program.now) (has_of a.«data».now (A5 a.opcode)) (λ s inhibit service chip. refl) (sym e ∙ go))
 
 on_SBIS : tie.Need-returns-7
 unfolding with_regs with_pc with_sp with_busy with_inhibit with_service with_chip pointed_of
 on_SBIS c f low word go =
     let a = c.before.before.before.before.before.before.args in
     let e = rw c.before.A52.ensures at c.has2.ensures in
-    rw (c.before.before.match.keys7, found 67) (by_skip a.regs.now a.pc a.sp a.program.now a.«data».now (SBIS (A5 a.opcode) (b3 a.opcode)) refl low word (data_bit_is a.«data».now (A5 a.opcode) (b3 a.opcode) true) (twoAt decode_of (cored a.regs.now (stood a.pc 0 0 0 false false) false) a.program.now) (has_of a.«data».now (A5 a.opcode)) (λ s inhibit service chip. refl) (sym e ∙ go))
+    rw (c.before.before.match.keys7, found 67) (by_skip a.regs.now a.pc a.sp a.program.now a.«data».now (SBIS (A5 a.opcode) (b3 a.opcode)) refl low word (data_bit_is a.«data».now (A5 a.opcode) (b3 a.opcode) true) (two_at decode_of (cored a.regs.now (stood a.pc 0 0 0 false false) false) a.program.now) (has_of a.«data».now (A5 a.opcode)) (λ s inhibit service chip. refl) (sym e ∙ go))
 
 on_IN : tie.Need-returns-8
 unfolding with_regs with_pc with_sp with_busy with_inhibit with_service with_chip pointed_of

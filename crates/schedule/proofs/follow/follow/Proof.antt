@@ -127,9 +127,9 @@ module _ (c : tie.After-run-in invariant_loop decreases_loop) where
   abbrev past : List ℕ
   past = drop (length first.args.list.now / 5) end.before.before.before.clear.last.0
 
-  abbrev stands-last : Stands first.args.snapshot.now first.args.program.now first.args.«data».now first.args.list.now first.args.from first.args.budget past
+  abbrev stands_last : Stands first.args.snapshot.now first.args.program.now first.args.«data».now first.args.list.now first.args.from first.args.budget past
       end.loop.snapshot end.loop.«data» end.loop.entered end.loop.i end.loop.done
-  stands-last = end.loop.inv.1.1.1
+  stands_last = end.loop.inv.1.1.1
 
   none_left : length first.args.list.now / 5 ≤ end.loop.i
   none_left = c.before.before.before.loop-test.false
@@ -139,14 +139,14 @@ module _ (c : tie.After-run-in invariant_loop decreases_loop) where
 
   fits : end.loop.done + c.run_in.result.ticks ≤ first.args.budget
   fits =
-      count_fits stands-last none_left program_bytes c.run_in.result c.run_in.new.0 c.run_in.new.1.1.0 c.run_in.ensures
+      count_fits stands_last none_left program_bytes c.run_in.result c.run_in.new.0 c.run_in.new.1.1.0 c.run_in.ensures
 
 returns_2 : tie.Need-returns-2 invariant_loop decreases_loop
 returns_2 c =
     let w = c.before.before.before.before.before.before in
     let h = end w in
     let a = (first w).args in
-    follows_last (stands-last w) (none_left w) (program_bytes w) w.run_in.result w.run_in.new.0 w.run_in.new.1.1.0 w.run_in.ensures
+    follows_last (stands_last w) (none_left w) (program_bytes w) w.run_in.result w.run_in.new.0 w.run_in.new.1.1.0 w.run_in.ensures
     c.told2.result (ap (λ x. x.answer) c.told2.ensures) (ap (λ x. x.ticks) c.told2.ensures) a.entered.now (kept_past h.before)
 
 pub follow_spec : {M : Type 1} → statement M

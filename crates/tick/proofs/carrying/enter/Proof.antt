@@ -13,4 +13,4 @@ enter_spec =
     -- pushed
     (λ c κs. search rules)
     (λ c. search rules)
-    (λ c. let pushed = c.before.before.push-word.ensures in record { core = rw pushed.core; bytes = pushed.bytes }))
+    (λ c. let pushed = c.push_word-next.ensures in record { core = rw pushed.core; bytes = pushed.bytes }))

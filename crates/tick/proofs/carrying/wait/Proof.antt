@@ -15,4 +15,4 @@ wait_spec =
     (tie.spec
     (λ c. search rules)
     (λ c. refl)
-    (λ c. let k = c.before.before.args.core in let e : k.busy - 1 ≡ k.busy = omega (arith, c.if1.false) in rw e))
+    (λ c. let k = c.args.core in let e : k.busy - 1 ≡ k.busy = omega (arith, c.if-core-gt0.false) in rw e))

@@ -11,19 +11,19 @@ unfolding plan_of entry_or_step
 decide_spec =
     tie.close
     (tie.spec
-    (λ c. rw (lt-ltb 4 c.before.before.before.before.args.core.busy c.if1.true))
-    (λ c. let sound = c.before.before in
-    let busy = sound.before.before.before.before.args.core.busy in
-    rw (le-ltb 4 busy sound.if1.false, lt-ltb 0 busy c.if2.true))
+    (λ c. rw (lt-ltb 4 c.args.core.busy c.if-core-gt4.true))
+    (λ c. let sound = c in
+    let busy = sound.args.core.busy in
+    rw (le-ltb 4 busy sound.if-core-gt4.false, lt-ltb 0 busy c.if-core-gt0.true))
     (λ c κs. search rules)
     (λ c. search rules)
     (λ c κs. search rules)
     (λ c κs. search rules)
     (λ c. search rules)
     (λ c κs. search rules)
-    (λ c. let d = c.before.before.before.before.before in
-    simp (le-ltb _ _ d.before.before.before.if1.false, le-ltb _ _ d.before.if2.false, ← d.due.ensures, c.before.before.before.vector.given.1, ← c.before.push-refusal.ensures) c.granted.ensures)
-    (λ c. let d = c.before.before.before.before in
-    simp (le-ltb _ _ d.before.before.before.if1.false, le-ltb _ _ d.before.if2.false, ← d.due.ensures, c.before.before.enum_told.given.1, eq-eqb _ _ c.if3.true))
-    (λ c. let d = c.before.before.before.before.before in
-    simp (le-ltb _ _ d.before.before.before.if1.false, le-ltb _ _ d.before.if2.false, ← d.due.ensures, c.before.before.before.enum_told.given.1, ne_eqb _ _ c.before.if3.false) c.step.ensures))
+    (λ c. let d = c in
+    simp (le-ltb _ _ d.if-core-gt4.false, le-ltb _ _ d.if-core-gt0.false, ← d.due-vector.ensures, c.in-Vector.is, ← c.push_refusal.ensures) c.granted.ensures)
+    (λ c. let d = c in
+    simp (le-ltb _ _ d.if-core-gt4.false, le-ltb _ _ d.if-core-gt0.false, ← d.due-vector.ensures, c.in-Nothing.is, eq-eqb _ _ c.if-core-eq65535.true))
+    (λ c. let d = c in
+    simp (le-ltb _ _ d.if-core-gt4.false, le-ltb _ _ d.if-core-gt0.false, ← d.due-vector.ensures, c.in-Nothing.is, ne_eqb _ _ c.if-core-eq65535.false) c.step.ensures))

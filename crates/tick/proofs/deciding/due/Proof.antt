@@ -13,15 +13,15 @@ pub due_spec : {M : Type 1} → statement M
 due_spec =
     tie.close
     (tie.spec
-    (λ c. let k = c.before.args.core in
-    let inhibited : k.inhibit ≡ true = c.if1.true in
+    (λ c. let k = c.args.core in
+    let inhibited : k.inhibit ≡ true = c.if-core.true in
     rw inhibited)
     (λ c κs. search rules)
-    (λ c. let a = c.before.before.before.before.args in
+    (λ c. let a = c.args in
     let k = a.core in
-    let free : (flag k 7 && not k.in_service) ≡ true = rw c.before.before.get_sreg_bit.ensures at c.if2.true in
-    rw (c.before.before.before.if1.false, ← if_and_not (flag k 7) k.in_service Nothing a.offer, free))
-    (λ c. let a = c.before.before.before.before.args in
+    let free : (flag k 7 && not k.in_service) ≡ true = rw c.get_sreg_bit.ensures at c.if-get_sreg_bit-core.true in
+    rw (c.if-core.false, ← if_and_not (flag k 7) k.in_service Nothing a.offer, free))
+    (λ c. let a = c.args in
     let k = a.core in
-    let not_free : (flag k 7 && not k.in_service) ≡ false = rw c.before.before.get_sreg_bit.ensures at c.if2.false in
-    rw (c.before.before.before.if1.false, ← if_and_not (flag k 7) k.in_service Nothing a.offer, not_free)))
+    let not_free : (flag k 7 && not k.in_service) ≡ false = rw c.get_sreg_bit.ensures at c.if-get_sreg_bit-core.false in
+    rw (c.if-core.false, ← if_and_not (flag k 7) k.in_service Nothing a.offer, not_free)))

@@ -12,17 +12,17 @@ step_spec =
     (tie.spec
     (λ c κs. search rules)
     (λ c κs. search rules)
-    (λ c. let has = c.before.has_words in
-    let fetched = c.before.before in
-    let a = fetched.before.before.before.args in
-    let found = rw fetched.fetch.ensures at has.ensures in
-    step_unfetched a.core a.program.now a.«data».now has.result found (not-true has.result c.if1.true))
+    (λ c. let has = c.has_words in
+    let fetched = c in
+    let a = fetched.args in
+    let found = rw fetched.fetch-op.ensures at has.ensures in
+    step_unfetched a.core a.program.now a.«data».now has.result found (c.if-not-has_words.true))
     (λ c κs. search rules)
     (λ c κs. search rules)
-    (λ c. let has = c.before.before.before.has_words in
-    let fetched = c.before.before.before.before in
-    let a = fetched.before.before.before.args in
-    let op = fetched.fetch.ensures in
+    (λ c. let has = c.has_words in
+    let fetched = c in
+    let a = fetched.args in
+    let op = fetched.fetch-op.ensures in
     let found = rw op at has.ensures in
-    let needed = rw op at c.before.refusal.ensures in
-    rw (c.granted.ensures, needed, op) (step_fetched a.core a.program.now a.«data».now has.result found (not-false has.result c.before.before.if1.false))))
+    let needed = rw op at c.refusal.ensures in
+    rw (c.granted.ensures, needed, op) (step_fetched a.core a.program.now a.«data».now has.result found (c.if-not-has_words.false))))

@@ -12,4 +12,4 @@ fetch_spec =
     (λ c. search rules)
     (λ c κs. search rules)
     (λ c κs. search rules)
-    (λ c. rw (c.decode.ensures, c.before.get-progmem2.ensures, c.before.before.get_progmem.ensures)))
+    (λ c. rw (c.decode.ensures, c.get_progmem-prefetch.ensures, c.get_progmem-opcode.ensures)))

@@ -12,7 +12,7 @@ has_words_spec =
     (tie.spec
     (λ c. search rules)
     (λ c κs. search rules)
-    (λ c. let a = c.before.before.before.args in both_words a.program.now a.pc a.op (sym c.before.Has-word.ensures ∙ c.if1.true))
+    (λ c. let a = c.args in both_words a.program.now a.pc a.op (sym c.has_word.ensures ∙ c.if-has_word.true))
     (λ c κs. search rules)
     (λ c κs. search rules)
-    (λ c. let a = c.before.before.before.before.before.args in rw (c.two_words.ensures, c.before.has-word2.ensures) (first_word a.program.now a.pc a.op (sym c.before.before.before.Has-word.ensures ∙ c.before.before.if1.false))))
+    (λ c. let a = c.args in rw (c.two_words.ensures, c.has_word-2.ensures) (first_word a.program.now a.pc a.op (sym c.has_word.ensures ∙ c.if-has_word.false))))
