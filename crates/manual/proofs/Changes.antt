@@ -19,14 +19,14 @@ use Rattle.manual.specs.DecToLsr.{jmp}
 use Rattle.manual.specs.SbcToWdr.{sleep, wdr}
 use Rattle.manual.specs.Instructions.{instruction}
 use Rattle.manual.specs.Differences.{changed}
-use Rattle.manual.proofs.Turned.{adiw_by, cycles_by, load_cycles_lem, load_inc_cycles, load_dec_cycles, store_cycles_lem, store_inc_cycles, store_dec_cycles, defined_by, next_inhibit, sei_by, answer_by, target_by, call_lands, jump_lands}
+use Rattle.manual.proofs.Turned.{adiw_by_lem, cycles_by, load_cycles_lem, load_inc_cycles, load_dec_cycles, store_cycles_lem, store_inc_cycles, store_dec_cycles, defined_by, next_inhibit, sei_by, answer_by, target_by, call_lands, jump_lands}
 
 module _ (chip : Bool) (s : Switches) (two : Bool) (k : Core) (p m : List ℕ) (h : k.sreg < 256) (calm : k.inhibit ≡ false) where
   pub instruction_changed : (i : Instruction) → instruction s two k i p m ≡ changed chip s k i (instruction (base chip) two k i p m)
   unfolding adiw break bset call jmp sleep wdr changed
   instruction_changed (ADC d r) = refl
   instruction_changed (ADD d r) = refl
-  instruction_changed (ADIW d K) = adiw_by k d K m h (base chip adiw_v) (s adiw_v)
+  instruction_changed (ADIW d K) = adiw_by_lem k d K m h (base chip adiw_v) (s adiw_v)
   instruction_changed (AND d r) = refl
   instruction_changed (ANDI d K) = refl
   instruction_changed (ASR d) = refl

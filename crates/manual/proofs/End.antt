@@ -84,12 +84,12 @@ module _ (s : Switches) (p m : List ℕ) (k : Core) where
   enters_same Nothing h n =
       end_by (s end) (eqb k.pc 65535) (step s k j p m) (step (with_end s) k j p m) (stepped decode_of k j p m) n (step_same h) (stepped_goes_on k j p m)
 
-  tick_by : (o : Offer) (b : Bool) → ltb 0 k.busy ≡ b → Sound k → s end ≡ false
+  tick_by_lem : (o : Offer) (b : Bool) → ltb 0 k.busy ≡ b → Sound k → s end ≡ false
       → tick_by s k p m o ≡ pick (ended (tick_of k p m o)) (step s k j p m) (tick_by (with_end s) k p m o)
   unfolding tick_by ticked
-  tick_by o true e w n = let l = w.busy_le in rw (le-ltb 4 k.busy l, e)
-  tick_by o false e w n = let l = w.busy_le in rw (le-ltb 4 k.busy l, e) (enters_same (due k o) w.sreg_lt n)
+  tick_by_lem o true e w n = let l = w.busy_le in rw (le-ltb 4 k.busy l, e)
+  tick_by_lem o false e w n = let l = w.busy_le in rw (le-ltb 4 k.busy l, e) (enters_same (due k o) w.sreg_lt n)
 
 -- ---- 4
 pub end_alone : EndAlone
-end_alone s k p m o w pp mm n = tick_by s p m k o (ltb 0 k.busy) refl w n
+end_alone s k p m o w pp mm n = tick_by_lem s p m k o (ltb 0 k.busy) refl w n

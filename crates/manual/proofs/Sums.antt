@@ -36,15 +36,15 @@ difference_row s Rd Rr R Z =
     (is (bar (Rd ! 7) • Rr ! 7 ⊹ Rr ! 7 • R ! 7 ⊹ R ! 7 • bar (Rd ! 7)))
 
 module _ (k : Core) (a b : ℕ) (c : Bool) (hs : k.sreg < 256) (ha : a < 256) (hb : b < 256) where
-  sum_row : (z : Bool) → sum_row k.sreg a b ((a + b + one c) % 256) z ≡ sum_flags k (plus_of a b c) z
+  sum_row_lem : (z : Bool) → sum_row k.sreg a b ((a + b + one c) % 256) z ≡ sum_flags k (plus_of a b c) z
   unfolding plus_of
-  sum_row z =
+  sum_row_lem z =
       let x = (a + b + one c) % 256 in
       rw (row_cznvsh, half_add c a b, bit7 a ha, bit7 b hb, bit7 x (omega arith), carry_add a b (one c) (one_le c) ha hb, over_add (leb 128 a) (leb 128 b) (leb 128 x))
 
-  difference_row : (z : Bool) → difference_row k.sreg a b ((a + 512 - (b + one c)) % 256) z ≡ sum_flags k (minus_of a b c) z
+  difference_row_lem : (z : Bool) → difference_row k.sreg a b ((a + 512 - (b + one c)) % 256) z ≡ sum_flags k (minus_of a b c) z
   unfolding minus_of
-  difference_row z =
+  difference_row_lem z =
       let x = (a + 512 - (b + one c)) % 256 in
       rw (row_cznvsh, half_sub c a b hb, bit7 a ha, bit7 b hb, bit7 x (omega arith), carry_sub a b (one c) (one_le c) ha hb, over_sub (leb 128 a) (leb 128 b) (leb 128 x))
 
@@ -68,7 +68,7 @@ module _ (k : Core) (w : Ready k) where
       let b = reg k r in
       let c = k.sreg ! 0 in
       let x = (a + b + one c) % 256 in
-      rw (next_one k w, zero8_is x (omega arith), sum_row k a b c w.sound.sreg_lt (w.sound.reg_lt d) (w.sound.reg_lt r))
+      rw (next_one k w, zero8_is x (omega arith), sum_row_lem k a b c w.sound.sreg_lt (w.sound.reg_lt d) (w.sound.reg_lt r))
 
   pub add_is : (d r : ℕ) → add k d r ≡ add_of (on k) d r
   unfolding add plus_of with_pc with_reg
@@ -76,7 +76,7 @@ module _ (k : Core) (w : Ready k) where
       let a = reg k d in
       let b = reg k r in
       let x = (a + b + 0) % 256 in
-      rw (next_one k w, plain a b, zero8_is x (omega arith), sum_row k a b false w.sound.sreg_lt (w.sound.reg_lt d) (w.sound.reg_lt r))
+      rw (next_one k w, plain a b, zero8_is x (omega arith), sum_row_lem k a b false w.sound.sreg_lt (w.sound.reg_lt d) (w.sound.reg_lt r))
 
   -- ---- differences
   pub sub_is : (d r : ℕ) → sub k d r ≡ sub_of (on k) d (reg k r)
@@ -86,14 +86,14 @@ module _ (k : Core) (w : Ready k) where
       let b = reg k r in
       let hb = w.sound.reg_lt r in
       let x = (a + 512 - (b + 0)) % 256 in
-      rw (next_one k w, less a b hb, zero8_is x (omega arith), difference_row k a b false w.sound.sreg_lt (w.sound.reg_lt d) hb)
+      rw (next_one k w, less a b hb, zero8_is x (omega arith), difference_row_lem k a b false w.sound.sreg_lt (w.sound.reg_lt d) hb)
 
   pub subi_is : (d K : ℕ) → K < 256 → subi k d K ≡ sub_of (on k) d K
   unfolding subi minus_of with_pc with_reg
   subi_is d b hb =
       let a = reg k d in
       let x = (a + 512 - (b + 0)) % 256 in
-      rw (next_one k w, less a b hb, zero8_is x (omega arith), difference_row k a b false w.sound.sreg_lt (w.sound.reg_lt d) hb)
+      rw (next_one k w, less a b hb, zero8_is x (omega arith), difference_row_lem k a b false w.sound.sreg_lt (w.sound.reg_lt d) hb)
 
   pub cp_is : (d r : ℕ) → cp k d r ≡ cp_of (on k) d (reg k r)
   unfolding cp minus_of with_pc
@@ -102,14 +102,14 @@ module _ (k : Core) (w : Ready k) where
       let b = reg k r in
       let hb = w.sound.reg_lt r in
       let x = (a + 512 - (b + 0)) % 256 in
-      rw (next_one k w, less a b hb, zero8_is x (omega arith), difference_row k a b false w.sound.sreg_lt (w.sound.reg_lt d) hb)
+      rw (next_one k w, less a b hb, zero8_is x (omega arith), difference_row_lem k a b false w.sound.sreg_lt (w.sound.reg_lt d) hb)
 
   pub cpi_is : (d K : ℕ) → K < 256 → cpi k d K ≡ cp_of (on k) d K
   unfolding cpi minus_of with_pc
   cpi_is d b hb =
       let a = reg k d in
       let x = (a + 512 - (b + 0)) % 256 in
-      rw (next_one k w, less a b hb, zero8_is x (omega arith), difference_row k a b false w.sound.sreg_lt (w.sound.reg_lt d) hb)
+      rw (next_one k w, less a b hb, zero8_is x (omega arith), difference_row_lem k a b false w.sound.sreg_lt (w.sound.reg_lt d) hb)
 
   -- with C, and Z kept or cleared
   pub sbc_is : (d r : ℕ) → sbc k d r ≡ sbc_of (on k) d (reg k r)
@@ -120,7 +120,7 @@ module _ (k : Core) (w : Ready k) where
       let hb = w.sound.reg_lt r in
       let c = k.sreg ! 0 in
       let x = (a + 512 - (b + one c)) % 256 in
-      rw (next_one k w, less_carry a b c hb, zero8_is x (omega arith), ← and_comm (eqb x 0) (k.sreg ! 1), difference_row k a b c w.sound.sreg_lt (w.sound.reg_lt d) hb)
+      rw (next_one k w, less_carry a b c hb, zero8_is x (omega arith), ← and_comm (eqb x 0) (k.sreg ! 1), difference_row_lem k a b c w.sound.sreg_lt (w.sound.reg_lt d) hb)
 
   pub sbci_is : (d K : ℕ) → K < 256 → sbci k d K ≡ sbc_of (on k) d K
   unfolding sbci minus_of with_pc with_reg bit
@@ -128,7 +128,7 @@ module _ (k : Core) (w : Ready k) where
       let a = reg k d in
       let c = k.sreg ! 0 in
       let x = (a + 512 - (b + one c)) % 256 in
-      rw (next_one k w, less_carry a b c hb, zero8_is x (omega arith), ← and_comm (eqb x 0) (k.sreg ! 1), difference_row k a b c w.sound.sreg_lt (w.sound.reg_lt d) hb)
+      rw (next_one k w, less_carry a b c hb, zero8_is x (omega arith), ← and_comm (eqb x 0) (k.sreg ! 1), difference_row_lem k a b c w.sound.sreg_lt (w.sound.reg_lt d) hb)
 
   pub cpc_is : (d r : ℕ) → cpc k d r ≡ cpc_of (on k) d (reg k r)
   unfolding cpc minus_of with_pc bit
@@ -138,7 +138,7 @@ module _ (k : Core) (w : Ready k) where
       let hb = w.sound.reg_lt r in
       let c = k.sreg ! 0 in
       let x = (a + 512 - (b + one c)) % 256 in
-      rw (next_one k w, less_carry a b c hb, zero8_is x (omega arith), ← and_comm (eqb x 0) (k.sreg ! 1), difference_row k a b c w.sound.sreg_lt (w.sound.reg_lt d) hb)
+      rw (next_one k w, less_carry a b c hb, zero8_is x (omega arith), ← and_comm (eqb x 0) (k.sreg ! 1), difference_row_lem k a b c w.sound.sreg_lt (w.sound.reg_lt d) hb)
 
   -- ---- NEG
   pub neg_is : (d : ℕ) → neg k d ≡ neg_of (on k) d

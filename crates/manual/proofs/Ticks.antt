@@ -132,13 +132,13 @@ module _ (s : Switches) (p m : List ℕ) (pp : Bytes p) (mm : Bytes m) where
       let j = with_inhibit k false in
       end_by j (s end) (eqb k.pc 65535) (step s k j p m) (stepped decode_of k j p m) n (λ e. not_at_end k w b e)
 
-  tick_by : (k : Core) (o : Offer) (u : Bool) → ltb 0 k.busy ≡ u → s end ≡ true → Sound k → tick_by s k p m o ≡ after s (with_inhibit k false) p (tick_of k p m o)
+  tick_by_lem : (k : Core) (o : Offer) (u : Bool) → ltb 0 k.busy ≡ u → s end ≡ true → Sound k → tick_by s k p m o ≡ after s (with_inhibit k false) p (tick_of k p m o)
   unfolding tick_by ticked
-  tick_by k o true f n w = let l = w.busy_le in rw (le-ltb 4 k.busy l, f)
-  tick_by k o false f n w =
+  tick_by_lem k o true f n w = let l = w.busy_le in rw (le-ltb 4 k.busy l, f)
+  tick_by_lem k o false f n w =
       let l = w.busy_le in
       let g = ltb-false 0 k.busy f in
       rw (le-ltb 4 k.busy l, f) (enters_is k (due k o) n w (omega arith))
 
   pub tick_is : (k : Core) (o : Offer) → s end ≡ true → Sound k → tick_by s k p m o ≡ after s (with_inhibit k false) p (tick_of k p m o)
-  tick_is k o n w = tick_by k o (ltb 0 k.busy) refl n w
+  tick_is k o n w = tick_by_lem k o (ltb 0 k.busy) refl n w

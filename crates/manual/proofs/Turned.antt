@@ -45,13 +45,13 @@ module _ (k : Core) (d K : ℕ) (m : List ℕ) (h : k.sreg < 256) where
       (row_again (bar old • R ! 15) (b ! 7) (R ! 15) (zero16 R) (bar (R ! 15) • reg k (d + 1) ! 7) k.sreg h)
 
   -- by the switch, as it was and as it is
-  pub adiw_by : (was on : Bool)
+  pub adiw_by_lem : (was on : Bool)
       → let page : Bool → Says = λ low. ran (adiw_by (pick low (reg k d ! 7) (reg k (d + 1) ! 7)) k d K) m in
       page on ≡ as_set was on (page was) (overflow_by (reg k (pick on d (d + 1))) (page was))
-  adiw_by true true = refl
-  adiw_by true false = adiw_again (reg k d ! 7) (reg k (d + 1))
-  adiw_by false true = adiw_again (reg k (d + 1) ! 7) (reg k d)
-  adiw_by false false = refl
+  adiw_by_lem true true = refl
+  adiw_by_lem true false = adiw_again (reg k d ! 7) (reg k (d + 1))
+  adiw_by_lem false true = adiw_again (reg k (d + 1) ! 7) (reg k d)
+  adiw_by_lem false false = refl
 
 -- ---- pointer access, by the switch as it was and as it is: a page that takes c cycles is one of any others, with the waits of c
 pub cycles_by : (page : ℕ → Says) → ((c other : ℕ) → page c ≡ waits (c - 1) (page other)) → (more less : ℕ) (was on : Bool)

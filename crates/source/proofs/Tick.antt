@@ -135,17 +135,17 @@ module _ (s : Self) (c : s.core.chip ≡ false) (w : Sound s.core) (m : Bytes s.
       rw (fetch_is (with_core s (with_inhibit s.core false)) q true e, le-ltb (s.core.pc + 1) 65536 (omega arith))
   execute_is false e = execute_step e
 
-  enters_or_steps : (o : Offer) → after (after_due s o) (λ returned. pick returned (return true) execute) ≡ seen s (enters_or_steps decode_of s.core s.progmem s.ds o)
+  enters_or_steps_lem : (o : Offer) → after (after_due s o) (λ returned. pick returned (return true) execute) ≡ seen s (enters_or_steps decode_of s.core s.progmem s.ds o)
   unfolding enters_or_steps
-  enters_or_steps (Vector v) = rw after_pick (sym (seen_decided s (push_needs s.core s.ds) (entered_tick s.core v s.ds) refl))
-  enters_or_steps Nothing = execute_is (eqb s.core.pc 65535) refl
+  enters_or_steps_lem (Vector v) = rw after_pick (sym (seen_decided s (push_needs s.core s.ds) (entered_tick s.core v s.ds) refl))
+  enters_or_steps_lem Nothing = execute_is (eqb s.core.pc 65535) refl
 
   tick_by : (b : Bool) → ltb 0 s.core.busy ≡ b → tick s ≡ seen s (tick_of s.core s.progmem s.ds s.pending)
   unfolding tick ticked
   tick_by true e =
       let h = w.busy_le in
       rw (le-ltb 4 s.core.busy h, e)
-  tick_by false e = let h = w.busy_le in rw (le-ltb 4 s.core.busy h, e, interrupts_is s w) (enters_or_steps (due s.core s.pending))
+  tick_by false e = let h = w.busy_le in rw (le-ltb 4 s.core.busy h, e, interrupts_is s w) (enters_or_steps_lem (due s.core s.pending))
 
   pub tick_is : tick s ≡ seen s (tick_of s.core s.progmem s.ds s.pending)
   tick_is = tick_by (ltb 0 s.core.busy) refl

@@ -9,7 +9,6 @@ pub list_spec : {M : Type 1} → statement M
 list_spec =
     tie.close
     (tie.spec
-    (λ c. search rules)
     (λ c κs. search rules)
     (λ c. search rules)
     (λ c. rw (lt-ltb _ _ c.if-program-gt-MOST.true) (prints c.put_text.ensures))

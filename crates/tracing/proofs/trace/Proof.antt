@@ -36,27 +36,25 @@ trace_spec =
     (tie.spec
     (λ c κs. search rules)
     (λ c. search rules)
-    (λ c. search rules)
     (λ c κs. search rules)
     (λ c. search rules)
     (λ c.
-    let d = c.before.before.before.before in
-    let h = lies d.before.before.before.args.input.now _ _ _ _ d.Job-of.ensures c.before.before.size.given.1 in
+    let d = c in
+    let h = lies d.args.input.now _ _ _ _ d.job_of.ensures c.in-Trace.is in
     search rules)
     (λ c. search rules)
     (λ c. search rules)
     (λ c.
-    let d = c.before.before.before.before in
-    let h = lies d.before.before.before.args.input.now _ _ _ _ d.Job-of.ensures c.before.before.size.given.1 in
+    let d = c in
+    let h = lies d.args.input.now _ _ _ _ d.job_of.ensures c.in-Trace.is in
     search rules)
     (λ c κs. search rules)
     (λ c. search rules)
     (λ c.
-    let d = c.before.before.before.before.before.before.before in
-    asked d.before.before.before.args.input.now _ _ _ _ _ d.Job-of.ensures c.before.before.before.before.before.enum_told.given.1 c.before.before.put-text.ensures)
+    let d = c in
+    asked d.args.input.now _ _ _ _ _ d.job_of.ensures c.in-Bad.is c.put_text.ensures)
     (λ c. search rules)
     (λ c.
-    let z = c.before.before.before.before.before.before.size.given in
-    let d = c.before.before.before.before.before.before.before.before in
-    let all : z.0.0 + 6 - 6 ≡ z.0.0 = omega arith in
-    asked d.before.before.before.args.input.now _ _ _ _ _ d.Job-of.ensures z.1 (rw all at c.before.before.put-lines.ensures)))
+    let size = c.in-Trace.size in
+    let all : size + 6 - 6 ≡ size = omega arith in
+    asked c.args.input.now _ _ _ _ _ c.job_of.ensures c.in-Trace.is (rw all at c.put_lines.ensures)))

@@ -120,7 +120,7 @@ loop_again c =
     let f = by_count t l.loop-at.at a.count.result a.loop-at-test.true l.loop-at.invariant.1.1.0 a.count.ensures in
     let w = c.fill_line in
     let bs = take (l.loop-at.at + a.count.result * 2 + 11 - l.loop-at.at) (drop l.loop-at.at t) in
-    let e : length w.new.1.0 ≡ length l.loop-at.program = rw w.ensures (length-sets l.loop-at.program (address_of bs) (data_of bs)) in
+    let e : length w.new.program ≡ length l.loop-at.program = rw w.ensures (length-sets l.loop-at.program (address_of bs) (data_of bs)) in
     let n = c.end_length.ensures in (
       rw n f.fits,
       (e ∙ l.loop-at.invariant.1.0, (rw n (rest_fits (rw f.lines at l.loop-at.invariant.1.1.0)), rw (l.loop-at.invariant.1.1.1, f.lines, filled_line, ← w.ensures, n))),

@@ -55,7 +55,7 @@ slice_write_program c =
     let i = s.requires.inside (omega arith) in
     omega arith
 
-add_j : tie.Need-overflow_add-j invariant_loop decreases_loop
+add_j : tie.Need-overflow_add-j-in-loop-j invariant_loop decreases_loop
 add_j c = search rules
 
 loop_less : tie.Need-loop-j-smaller invariant_loop decreases_loop

@@ -81,7 +81,7 @@ loop_again c =
     let w : m ≡ min 16 (length p - i) = omega (arith, e.end_of-end.ensures) in
     let g = next_length p i m h w in
     let o = c.put_line in
-    let q : length o.new.0 ≡ length l.loop-i.out = rw o.ensures (length-sets l.loop-i.out l.loop-i.at (ended 0 i (take m (drop i p)))) in
+    let q : length o.new.out ≡ length l.loop-i.out = rw o.ensures (length-sets l.loop-i.out l.loop-i.at (ended 0 i (take m (drop i p)))) in
     (omega arith, (q ∙ l.loop-i.invariant.1.0, (omega arith, rw (l.loop-i.invariant.1.1.1, next_put p i m h w l.loop-i.out l.loop-i.at, ← o.ensures))))
 
 sub_put_line_2 : tie.Need-slice_bounds-put_line-count-2 invariant_loop decreases_loop

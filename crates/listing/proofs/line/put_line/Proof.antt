@@ -19,4 +19,4 @@ put_line_spec =
     let row = end.before.before.before.before in
     let space = row.before.before.before.before in
     let address = space.before.before.before.before in
-    both (both (both address.put_hex4-at.ensures space.put_byte-at.ensures) row.put_row-at.ensures) end.put_byte-at.ensures))
+    both (both (both address.put_hex4-at.ensures space.put_byte-at.ensures) row.put_row-at.ensures) end.put_byte.ensures))

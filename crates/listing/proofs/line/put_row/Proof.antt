@@ -26,14 +26,12 @@ put_row_spec =
     (λ c. search rules)
     (λ c. search rules)
     (λ c. search rules)
-    (λ c. search rules)
-    (λ c. search rules)
     (λ c.
     let second = c in
     let byte = second.before.before.before.before in
     let first = byte.before.before.before.before.before in
     let told = first.before.before.before in
-    rw told.row-1.given.1 (both (both first.put_hex2-at.ensures byte.put_text-at.ensures) second.put_hex2-at.ensures))
+    rw told.in-Lone.is (both (both first.put_hex2-at.ensures byte.put_text-at.ensures) second.put_hex2.ensures))
     (λ c. search rules)
     (λ c.
     let said = c in
@@ -41,7 +39,7 @@ put_row_spec =
     let spaces = shown.before.before.before.before in
     let word = spaces.before.before.before.before.before in
     let told = word.before.before.before in
-    rw (told.row-in-Single-1.given.1, ← shown.shown_of.ensures.0, ← shown.shown_of.ensures.1) (both (both word.put_hex4-at.ensures spaces.put_text-at-in-Single.ensures) said.put_shown.ensures))
+    rw (told.in-Single.is, ← shown.shown_of.ensures.0, ← shown.shown_of.ensures.1) (both (both word.put_hex4-at.ensures spaces.put_text-at-in-Single.ensures) said.put_shown.ensures))
     (λ c. search rules)
     (λ c.
     let said = c in
@@ -51,4 +49,4 @@ put_row_spec =
     let space = second.before.before.before.before in
     let first = space.before.before.before.before in
     let told = first.before.before.before in
-    rw (told.row-in-Double-1.given.1, ← shown.shown_of-in-Double.ensures.0, ← shown.shown_of-in-Double.ensures.1) (both (both (both (both first.put_hex4-at-in-Double.ensures space.put_byte-at.ensures) second.put_hex4-at-in-Double-2.ensures) after.put_byte-at-in-Double.ensures) said.put_shown-in-Double.ensures)))
+    rw (told.in-Double.is, ← shown.shown_of-in-Double.ensures.0, ← shown.shown_of-in-Double.ensures.1) (both (both (both (both first.put_hex4-at-in-Double.ensures space.put_byte-at.ensures) second.put_hex4-at-in-Double-2.ensures) after.put_byte-at-in-Double.ensures) said.put_shown-in-Double.ensures)))

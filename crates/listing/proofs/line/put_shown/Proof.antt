@@ -22,16 +22,15 @@ put_shown_spec =
     (λ c. search rules)
     (λ c. search rules)
     (λ c. search rules)
-    (λ c. search rules)
     (λ c.
     let name = c in
-    rw (name.shown-1.given.1, append-nil) name.put_name.ensures)
+    rw (name.in-Bare.is, append-nil) name.put_name.ensures)
     (λ c. search rules)
     (λ c.
     let first = c in
     let space = first.before.before.before.before in
     let name = space.before.before.before.before in
-    rw name.shown-in-One-1.given.1 (both name.put_name-at.ensures (both space.put_byte-at.ensures first.put_operand.ensures)))
+    rw name.in-One.is (both name.put_name-at.ensures (both space.put_byte-at.ensures first.put_operand.ensures)))
     (λ c. search rules)
     (λ c.
     let second = c in
@@ -39,4 +38,4 @@ put_shown_spec =
     let first = comma.before.before.before.before.before in
     let space = first.before.before.before.before in
     let name = space.before.before.before.before in
-    rw name.shown-in-Two-1.given.1 (both name.put_name-at-in-Two.ensures (both (both (both space.put_byte-at-in-Two.ensures first.put_operand-at.ensures) comma.put_text-at.ensures) second.put_operand-in-Two.ensures))))
+    rw name.in-Two.is (both name.put_name-at-in-Two.ensures (both (both (both space.put_byte-at-in-Two.ensures first.put_operand-at.ensures) comma.put_text-at.ensures) second.put_operand-in-Two.ensures))))

@@ -37,10 +37,10 @@ put_lines_spec =
     let row = c in
     let l = row.loop-pc in
     let a = row.args in
-    let turn = goes_on a.program.now l.pc (page l.out-1 l.at) _ _ _ row.loop-pc-test.true row.row_at-row.ensures c.words_in.ensures c.put_line-at.ensures in
+    let turn = goes_on a.program.now l.pc (page l.out l.at) _ _ _ row.loop-pc-test.true row.row_at-row.ensures c.words_in.ensures c.put_line-at.ensures in
     (search rules, (search rules, rw l.invariant.1.1 turn)))
     (λ c. search rules)
     (λ c.
     let l = c.loop-pc in
     let a = c.args in
-    record { is = rw l.invariant.1.1 (sym (spent a.program.now l.pc (page l.out-1 l.at) c.loop-pc-test.false)) }))
+    record { is = rw l.invariant.1.1 (sym (spent a.program.now l.pc (page l.out l.at) c.loop-pc-test.false)) }))

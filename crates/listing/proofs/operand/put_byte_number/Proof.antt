@@ -12,5 +12,4 @@ put_byte_number_spec =
     (λ c. search rules)
     (λ c. search rules)
     (λ c. search rules)
-    (λ c. search rules)
     (λ c. both c.put_text-at.ensures c.put_hex2.ensures))

@@ -18,4 +18,4 @@ put_pair_spec =
     let lower = c in
     let colon = lower.before.before.before.before in
     let upper = colon.before.before.before.before in
-    both (both upper.put_register-at.ensures colon.put_byte-at.ensures) lower.put_register-at.ensures))
+    both (both upper.put_register-at.ensures colon.put_byte-at.ensures) lower.put_register.ensures))

@@ -26,7 +26,7 @@ row_at_spec =
     let second = two.before.before in
     let first = second.before in
     let has = first.before.before in
-    rw (← has.has_word.ensures, not-false has.has_word.result first.if-not-has_word.false, ← first.get_progmem-w.ensures, ← second.get_progmem-s.ensures, ← two.decode-op.ensures, ← two.two_words.ensures, c.if-not-two_words.true))
+    rw (← has.has_word.ensures, first.if-not-has_word.false, ← first.get_progmem-w.ensures, ← second.get_progmem-s.ensures, ← two.decode-op.ensures, ← two.two_words.ensures, c.if-not-two_words.true))
     (λ c. search rules)
     (λ c. search rules)
     (λ c.
@@ -36,7 +36,7 @@ row_at_spec =
     let has = first.before.before in
     let a = has.args in
     let missing : has_word_of a.program.now (a.pc + 1) ≡ false = sym c.has_word-2.ensures ∙ c.if-not-has_word-2.true in
-    rw (← has.has_word.ensures, not-false has.has_word.result first.if-not-has_word.false, ← first.get_progmem-w.ensures, ← second.get_progmem-s.ensures, ← two.decode-op.ensures, ← two.two_words.ensures, c.if-not-two_words.false, missing))
+    rw (← has.has_word.ensures, first.if-not-has_word.false, ← first.get_progmem-w.ensures, ← second.get_progmem-s.ensures, ← two.decode-op.ensures, ← two.two_words.ensures, c.if-not-two_words.false, missing))
     (λ c.
     let two = c in
     let second = two.before.before in
@@ -44,4 +44,4 @@ row_at_spec =
     let has = first.before.before in
     let a = has.args in
     let there : has_word_of a.program.now (a.pc + 1) ≡ true = sym c.has_word-2.ensures ∙ c.if-not-has_word-2.false in
-    rw (← has.has_word.ensures, not-false has.has_word.result first.if-not-has_word.false, ← first.get_progmem-w.ensures, ← second.get_progmem-s.ensures, ← two.decode-op.ensures, ← two.two_words.ensures, c.if-not-two_words.false, there)))
+    rw (← has.has_word.ensures, first.if-not-has_word.false, ← first.get_progmem-w.ensures, ← second.get_progmem-s.ensures, ← two.decode-op.ensures, ← two.two_words.ensures, c.if-not-two_words.false, there)))

@@ -11,10 +11,10 @@ job_of_spec =
     (tie.spec
     (λ c κs. search rules)
     (λ c. search rules)
-    (λ c. rw (← c.before.word.ensures, lt-ltb _ _ c.if1.true))
+    (λ c. rw (← c.word-size.ensures, lt-ltb _ _ c.if-size-gt49152.true))
     (λ c. search rules)
-    (λ c. rw (← c.before.before.word.ensures, le-ltb _ _ c.before.if1.false, lt-ltb _ _ c.if2.true))
+    (λ c. rw (← c.word-size.ensures, le-ltb _ _ c.if-size-gt49152.false, lt-ltb _ _ c.if-input-size.true))
     (λ c κs. search rules)
     (λ c κs. search rules)
     (λ c.
-    rw (← c.before.before.before.before.word.ensures, le-ltb _ _ c.before.before.before.if1.false, le-ltb _ _ c.before.before.if2.false, ← c.before.word2.ensures, ← c.word3.ensures)))
+    rw (← c.word-size.ensures, le-ltb _ _ c.if-size-gt49152.false, le-ltb _ _ c.if-input-size.false, ← c.word.ensures, ← c.word-2.ensures)))

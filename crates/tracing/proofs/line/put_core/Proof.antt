@@ -19,11 +19,11 @@ put_core_spec =
     (λ c κs. search rules)
     (λ c. search rules)
     (λ c.
-    let sp = c.before.before in
+    let sp = c in
     let third = sp.before.before.before.before in
     let sreg = third.before.before.before.before in
     let second = sreg.before.before.before.before in
     let busy = second.before.before.before.before in
     let first = busy.before.before.before.before.before in
     let pc = first.before.before.before.before in
-    both (both (both (both (both (both pc.put-hex4.ensures first.put_byte.ensures) busy.put-byte2.ensures) second.put-byte3.ensures) sreg.put-hex2.ensures) third.put-byte4.ensures) sp.put-hex42.ensures))
+    both (both (both (both (both (both pc.put_hex4-at.ensures first.put_byte-at.ensures) busy.put_byte-at-2.ensures) second.put_byte-at-3.ensures) sreg.put_hex2-at.ensures) third.put_byte-at-4.ensures) sp.put_hex4.ensures))

@@ -19,7 +19,7 @@ put_line_spec =
     (λ c κs. search rules)
     (λ c. search rules)
     (λ c.
-    let last = c.before.before in
+    let last = c in
     let state = last.before.before.before.before in
     let third = state.before.before.before.before in
     let word = third.before.before.before.before in
@@ -27,4 +27,4 @@ put_line_spec =
     let pc = second.before.before.before.before in
     let first = pc.before.before.before.before in
     let number = first.before.before.before.before in
-    both (both (both (both (both (both (both number.put-decimal.ensures first.put_byte.ensures) pc.put-hex4.ensures) second.put-byte2.ensures) word.put_word.ensures) third.put-byte3.ensures) state.put-core.ensures) last.put-byte4.ensures))
+    both (both (both (both (both (both (both number.put_decimal-at.ensures first.put_byte-at.ensures) pc.put_hex4-at.ensures) second.put_byte-at-2.ensures) word.put_word-at.ensures) third.put_byte-at-3.ensures) state.put_core-at.ensures) last.put_byte.ensures))
