@@ -21,14 +21,14 @@ unfolding with_regs with_reg with_pc with_sp with_busy with_inhibit with_service
 on_BRBC c =
     let a = c.args in
     rw (c.in-8.is, found 8, c.hop-pc.ensures, c.flag_is-taken.ensures, c.leaves-left.ensures)
-    (record { core = branches a.regs.now a.pc0 a.sp0 a.sreg0 a.inhibit0 a.in-service0 a.chip (b3 a.opcode) (k7 a.opcode) false; bytes = refl })
+    (record { core = branches a.regs.now a.pc0 a.sp0 a.sreg0 a.inhibit0 a.in_service0 a.chip (b3 a.opcode) (k7 a.opcode) false; bytes = refl })
 
 on_BRBS : tie.Need-returns-in-9
 unfolding with_regs with_reg with_pc with_sp with_busy with_inhibit with_service with_chip
 on_BRBS c =
     let a = c.args in
     rw (c.in-9.is, found 9, c.hop-pc-in-9.ensures, c.flag_is-taken-in-9.ensures, c.leaves-left.ensures)
-    (record { core = branches a.regs.now a.pc0 a.sp0 a.sreg0 a.inhibit0 a.in-service0 a.chip (b3 a.opcode) (k7 a.opcode) true; bytes = refl })
+    (record { core = branches a.regs.now a.pc0 a.sp0 a.sreg0 a.inhibit0 a.in_service0 a.chip (b3 a.opcode) (k7 a.opcode) true; bytes = refl })
 
 on_CALL : tie.Need-returns-in-13
 unfolding with_regs with_reg with_pc with_sp with_busy with_inhibit with_service with_chip
@@ -41,7 +41,7 @@ unfolding with_regs with_reg with_pc with_sp with_busy with_inhibit with_service
 on_CPSE c =
     let a = c.args in
     rw (c.in-19.is, found 19, c.wrapping_add_u16-pc.ensures, c.words_over.ensures, c.equal.ensures, c.leaves-left.ensures)
-    (record { core = skips a.regs.now a.pc0 a.sp0 a.sreg0 a.inhibit0 a.in-service0 a.chip c.ranges.pc0.fits a.program.now (eqb (get_or a.regs.now (d5 a.opcode) 0) (get_or a.regs.now (r5 a.opcode) 0)); bytes = refl })
+    (record { core = skips a.regs.now a.pc0 a.sp0 a.sreg0 a.inhibit0 a.in_service0 a.chip c.ranges.pc0.fits a.program.now (eqb (get_or a.regs.now (d5 a.opcode) 0) (get_or a.regs.now (r5 a.opcode) 0)); bytes = refl })
 
 on_ICALL : tie.Need-returns-in-25
 unfolding with_regs with_reg with_pc with_sp with_busy with_inhibit with_service with_chip
@@ -90,28 +90,28 @@ unfolding with_regs with_reg with_pc with_sp with_busy with_inhibit with_service
 on_SBIC c =
     let a = c.args in
     rw (c.in-66.is, found 66, c.wrapping_add_u16-pc-in-66.ensures, c.words_over-in-66.ensures, c.data_bit_is.ensures, c.leaves-left.ensures)
-    (record { core = skips a.regs.now a.pc0 a.sp0 a.sreg0 a.inhibit0 a.in-service0 a.chip c.ranges.pc0.fits a.program.now (data_bit_is a.«data».now (A5 a.opcode) (b3 a.opcode) false); bytes = refl })
+    (record { core = skips a.regs.now a.pc0 a.sp0 a.sreg0 a.inhibit0 a.in_service0 a.chip c.ranges.pc0.fits a.program.now (data_bit_is a.«data».now (A5 a.opcode) (b3 a.opcode) false); bytes = refl })
 
 on_SBIS : tie.Need-returns-in-67
 unfolding with_regs with_reg with_pc with_sp with_busy with_inhibit with_service with_chip
 on_SBIS c =
     let a = c.args in
     rw (c.in-67.is, found 67, c.wrapping_add_u16-pc-in-67.ensures, c.words_over-in-67.ensures, c.data_bit_is-in-67.ensures, c.leaves-left.ensures)
-    (record { core = skips a.regs.now a.pc0 a.sp0 a.sreg0 a.inhibit0 a.in-service0 a.chip c.ranges.pc0.fits a.program.now (data_bit_is a.«data».now (A5 a.opcode) (b3 a.opcode) true); bytes = refl })
+    (record { core = skips a.regs.now a.pc0 a.sp0 a.sreg0 a.inhibit0 a.in_service0 a.chip c.ranges.pc0.fits a.program.now (data_bit_is a.«data».now (A5 a.opcode) (b3 a.opcode) true); bytes = refl })
 
 on_SBRC : tie.Need-returns-in-69
 unfolding with_regs with_reg with_pc with_sp with_busy with_inhibit with_service with_chip
 on_SBRC c =
     let a = c.args in
     rw (c.in-69.is, found 69, c.wrapping_add_u16-pc-in-69.ensures, c.words_over-in-69.ensures, c.register_bit_is.ensures, c.leaves-left.ensures)
-    (record { core = skips a.regs.now a.pc0 a.sp0 a.sreg0 a.inhibit0 a.in-service0 a.chip c.ranges.pc0.fits a.program.now (beq (bit (get_or a.regs.now (d5 a.opcode) 0) (b3 a.opcode)) false); bytes = refl })
+    (record { core = skips a.regs.now a.pc0 a.sp0 a.sreg0 a.inhibit0 a.in_service0 a.chip c.ranges.pc0.fits a.program.now (beq (bit (get_or a.regs.now (d5 a.opcode) 0) (b3 a.opcode)) false); bytes = refl })
 
 on_SBRS : tie.Need-returns-in-70
 unfolding with_regs with_reg with_pc with_sp with_busy with_inhibit with_service with_chip
 on_SBRS c =
     let a = c.args in
     rw (c.in-70.is, found 70, c.wrapping_add_u16-pc-in-70.ensures, c.words_over-in-70.ensures, c.register_bit_is-in-70.ensures, c.leaves-left.ensures)
-    (record { core = skips a.regs.now a.pc0 a.sp0 a.sreg0 a.inhibit0 a.in-service0 a.chip c.ranges.pc0.fits a.program.now (beq (bit (get_or a.regs.now (d5 a.opcode) 0) (b3 a.opcode)) true); bytes = refl })
+    (record { core = skips a.regs.now a.pc0 a.sp0 a.sreg0 a.inhibit0 a.in_service0 a.chip c.ranges.pc0.fits a.program.now (beq (bit (get_or a.regs.now (d5 a.opcode) 0) (b3 a.opcode)) true); bytes = refl })
 
 on_IN : tie.Need-returns-in-27
 unfolding with_regs with_reg with_pc with_sp with_busy with_inhibit with_service with_chip data_of pointed_of word_if
@@ -203,7 +203,7 @@ on_OUT c =
     let a = c.args in
     let e = rw c.A6-in-55.ensures at c.store_from-left.ensures in
     rw (c.in-55.is, found 55)
-    (let l = out_leaves a.pc0 a.sp0 a.sreg0 a.inhibit0 a.in-service0 a.chip a.«data».now a.regs.now (d5 a.opcode) (A6 a.opcode) e.0 e.1 in record { core = l.core; bytes = l.bytes })
+    (let l = out_leaves a.pc0 a.sp0 a.sreg0 a.inhibit0 a.in_service0 a.chip a.«data».now a.regs.now (d5 a.opcode) (A6 a.opcode) e.0 e.1 in record { core = l.core; bytes = l.bytes })
 
 on_POP : tie.Need-returns-in-56
 unfolding with_regs with_reg with_pc with_sp with_busy with_inhibit with_service with_chip data_of pointed_of word_if
@@ -218,7 +218,7 @@ on_PUSH c =
     let e = c.store_from-left-in-57.ensures in
     let lower : c.wrapping_sub_u16.result ≡ down c.store_from-left-in-57.result.sp 1 = omega arith in
     rw (c.in-57.is, found 57)
-    (let l = push_leaves a.pc0 a.sp0 a.sreg0 a.inhibit0 a.in-service0 a.chip a.«data».now a.regs.now (d5 a.opcode) e.0 e.1 lower in record { core = l.core; bytes = l.bytes })
+    (let l = push_leaves a.pc0 a.sp0 a.sreg0 a.inhibit0 a.in_service0 a.chip a.«data».now a.regs.now (d5 a.opcode) e.0 e.1 lower in record { core = l.core; bytes = l.bytes })
 
 on_STX : tie.Need-returns-in-72
 unfolding with_regs with_reg with_pc with_sp with_busy with_inhibit with_service with_chip
@@ -226,7 +226,7 @@ on_STX c =
     let a = c.args in
     let e = c.st-left.ensures in
     rw (c.in-72.is, found 72)
-    (let l = st_leaves a.pc0 a.sp0 a.sreg0 a.inhibit0 a.in-service0 a.chip a.«data».now a.regs.now (d5 a.opcode) 26 0 false false e.0 e.1.0 e.1.1 in record { core = l.core; bytes = l.bytes })
+    (let l = st_leaves a.pc0 a.sp0 a.sreg0 a.inhibit0 a.in_service0 a.chip a.«data».now a.regs.now (d5 a.opcode) 26 0 false false e.0 e.1.0 e.1.1 in record { core = l.core; bytes = l.bytes })
 
 on_STXdec : tie.Need-returns-in-73
 unfolding with_regs with_reg with_pc with_sp with_busy with_inhibit with_service with_chip
@@ -234,7 +234,7 @@ on_STXdec c =
     let a = c.args in
     let e = c.st-left-in-73.ensures in
     rw (c.in-73.is, found 73)
-    (let l = st_leaves a.pc0 a.sp0 a.sreg0 a.inhibit0 a.in-service0 a.chip a.«data».now a.regs.now (d5 a.opcode) 26 0 true false e.0 e.1.0 e.1.1 in record { core = l.core; bytes = l.bytes })
+    (let l = st_leaves a.pc0 a.sp0 a.sreg0 a.inhibit0 a.in_service0 a.chip a.«data».now a.regs.now (d5 a.opcode) 26 0 true false e.0 e.1.0 e.1.1 in record { core = l.core; bytes = l.bytes })
 
 on_STXinc : tie.Need-returns-in-74
 unfolding with_regs with_reg with_pc with_sp with_busy with_inhibit with_service with_chip
@@ -242,7 +242,7 @@ on_STXinc c =
     let a = c.args in
     let e = c.st-left-in-74.ensures in
     rw (c.in-74.is, found 74)
-    (let l = st_leaves a.pc0 a.sp0 a.sreg0 a.inhibit0 a.in-service0 a.chip a.«data».now a.regs.now (d5 a.opcode) 26 0 false true e.0 e.1.0 e.1.1 in record { core = l.core; bytes = l.bytes })
+    (let l = st_leaves a.pc0 a.sp0 a.sreg0 a.inhibit0 a.in_service0 a.chip a.«data».now a.regs.now (d5 a.opcode) 26 0 false true e.0 e.1.0 e.1.1 in record { core = l.core; bytes = l.bytes })
 
 on_STYdec : tie.Need-returns-in-75
 unfolding with_regs with_reg with_pc with_sp with_busy with_inhibit with_service with_chip
@@ -250,7 +250,7 @@ on_STYdec c =
     let a = c.args in
     let e = c.st-left-in-75.ensures in
     rw (c.in-75.is, found 75)
-    (let l = st_leaves a.pc0 a.sp0 a.sreg0 a.inhibit0 a.in-service0 a.chip a.«data».now a.regs.now (d5 a.opcode) 28 0 true false e.0 e.1.0 e.1.1 in record { core = l.core; bytes = l.bytes })
+    (let l = st_leaves a.pc0 a.sp0 a.sreg0 a.inhibit0 a.in_service0 a.chip a.«data».now a.regs.now (d5 a.opcode) 28 0 true false e.0 e.1.0 e.1.1 in record { core = l.core; bytes = l.bytes })
 
 on_STYinc : tie.Need-returns-in-76
 unfolding with_regs with_reg with_pc with_sp with_busy with_inhibit with_service with_chip
@@ -258,7 +258,7 @@ on_STYinc c =
     let a = c.args in
     let e = c.st-left-in-76.ensures in
     rw (c.in-76.is, found 76)
-    (let l = st_leaves a.pc0 a.sp0 a.sreg0 a.inhibit0 a.in-service0 a.chip a.«data».now a.regs.now (d5 a.opcode) 28 0 false true e.0 e.1.0 e.1.1 in record { core = l.core; bytes = l.bytes })
+    (let l = st_leaves a.pc0 a.sp0 a.sreg0 a.inhibit0 a.in_service0 a.chip a.«data».now a.regs.now (d5 a.opcode) 28 0 false true e.0 e.1.0 e.1.1 in record { core = l.core; bytes = l.bytes })
 
 on_STZdec : tie.Need-returns-in-77
 unfolding with_regs with_reg with_pc with_sp with_busy with_inhibit with_service with_chip
@@ -266,7 +266,7 @@ on_STZdec c =
     let a = c.args in
     let e = c.st-left-in-77.ensures in
     rw (c.in-77.is, found 77)
-    (let l = st_leaves a.pc0 a.sp0 a.sreg0 a.inhibit0 a.in-service0 a.chip a.«data».now a.regs.now (d5 a.opcode) 30 0 true false e.0 e.1.0 e.1.1 in record { core = l.core; bytes = l.bytes })
+    (let l = st_leaves a.pc0 a.sp0 a.sreg0 a.inhibit0 a.in_service0 a.chip a.«data».now a.regs.now (d5 a.opcode) 30 0 true false e.0 e.1.0 e.1.1 in record { core = l.core; bytes = l.bytes })
 
 on_STZinc : tie.Need-returns-in-78
 unfolding with_regs with_reg with_pc with_sp with_busy with_inhibit with_service with_chip
@@ -274,7 +274,7 @@ on_STZinc c =
     let a = c.args in
     let e = c.st-left-in-78.ensures in
     rw (c.in-78.is, found 78)
-    (let l = st_leaves a.pc0 a.sp0 a.sreg0 a.inhibit0 a.in-service0 a.chip a.«data».now a.regs.now (d5 a.opcode) 30 0 false true e.0 e.1.0 e.1.1 in record { core = l.core; bytes = l.bytes })
+    (let l = st_leaves a.pc0 a.sp0 a.sreg0 a.inhibit0 a.in_service0 a.chip a.«data».now a.regs.now (d5 a.opcode) 30 0 false true e.0 e.1.0 e.1.1 in record { core = l.core; bytes = l.bytes })
 
 on_STDY : tie.Need-returns-in-79
 unfolding with_regs with_reg with_pc with_sp with_busy with_inhibit with_service with_chip
@@ -282,7 +282,7 @@ on_STDY c =
     let a = c.args in
     let e = rw c.q6-q-in-79.ensures at c.st-left-in-79.ensures in
     rw (c.in-79.is, found 79)
-    (let l = st_leaves a.pc0 a.sp0 a.sreg0 a.inhibit0 a.in-service0 a.chip a.«data».now a.regs.now (d5 a.opcode) 28 (q6 a.opcode) false false e.0 e.1.0 e.1.1 in record { core = l.core; bytes = l.bytes })
+    (let l = st_leaves a.pc0 a.sp0 a.sreg0 a.inhibit0 a.in_service0 a.chip a.«data».now a.regs.now (d5 a.opcode) 28 (q6 a.opcode) false false e.0 e.1.0 e.1.1 in record { core = l.core; bytes = l.bytes })
 
 on_STDZ : tie.Need-returns-in-80
 unfolding with_regs with_reg with_pc with_sp with_busy with_inhibit with_service with_chip
@@ -290,7 +290,7 @@ on_STDZ c =
     let a = c.args in
     let e = rw c.q6-q-in-80.ensures at c.st-left-in-80.ensures in
     rw (c.in-80.is, found 80)
-    (let l = st_leaves a.pc0 a.sp0 a.sreg0 a.inhibit0 a.in-service0 a.chip a.«data».now a.regs.now (d5 a.opcode) 30 (q6 a.opcode) false false e.0 e.1.0 e.1.1 in record { core = l.core; bytes = l.bytes })
+    (let l = st_leaves a.pc0 a.sp0 a.sreg0 a.inhibit0 a.in_service0 a.chip a.«data».now a.regs.now (d5 a.opcode) 30 (q6 a.opcode) false false e.0 e.1.0 e.1.1 in record { core = l.core; bytes = l.bytes })
 
 on_STS : tie.Need-returns-in-81
 unfolding with_regs with_reg with_pc with_sp with_busy with_inhibit with_service with_chip
@@ -298,7 +298,7 @@ on_STS c =
     let a = c.args in
     let e = rw c.get_progmem-at-in-81.ensures at c.store_from-left-in-81.ensures in
     rw (c.in-81.is, found 81, c.wrapping_add_u16-pc-in-81.ensures)
-    (let l = sts_leaves a.pc0 a.sp0 a.sreg0 a.inhibit0 a.in-service0 a.chip a.«data».now a.regs.now (d5 a.opcode) (program_word_of a.program.now a.pc0) e.0 e.1 in record { core = l.core; bytes = l.bytes })
+    (let l = sts_leaves a.pc0 a.sp0 a.sreg0 a.inhibit0 a.in_service0 a.chip a.«data».now a.regs.now (d5 a.opcode) (program_word_of a.program.now a.pc0) e.0 e.1 in record { core = l.core; bytes = l.bytes })
 
 on_CBI : tie.Need-returns-in-14
 unfolding with_regs with_reg with_pc with_sp with_busy with_inhibit with_service with_chip
@@ -317,9 +317,9 @@ unfolding with_regs with_reg with_pc with_sp with_busy with_inhibit with_service
 on_others c =
     let a = c.args in
     let x = program_word_of a.program.now a.pc0 in
-    let k = parted a.regs.now a.pc0 a.sp0 a.sreg0 0 a.inhibit0 a.in-service0 a.chip in
+    let k = parted a.regs.now a.pc0 a.sp0 a.sreg0 0 a.inhibit0 a.in_service0 a.chip in
     let e = others a.form a.opcode x k a.program.now a.«data».now (search rules) in
-    rw c.leaves-left.ensures (record { core = c.change-made.ensures a.pc0 a.sp0 a.in-service0 x a.program.now a.«data».now ∙ e.0; bytes = e.1 })
+    rw c.leaves-left.ensures (record { core = c.change-made.ensures a.pc0 a.sp0 a.in_service0 x a.program.now a.«data».now ∙ e.0; bytes = e.1 })
 
 pub effect_spec : {M : Type 1} → statement M
 effect_spec =

@@ -22,18 +22,18 @@ sound c h =
       busy_le = h;
     }
 
-returns : tie.Need-returns
+returns : tie.Need-returns-then-budget-eq0
 returns c =
-    let a = c.before.before.before.before.args in
-    rw c.before.if1.true (runs_none a.core a.program.now a.«data».now a.offer c.ended.ensures)
+    let a = c.args in
+    rw c.if-budget-eq0.true (runs_none a.core a.program.now a.«data».now a.offer c.ended.ensures)
 
-returns_2 : tie.Need-returns-2
+returns_2 : tie.Need-returns-then-core-gt4
 returns_2 c =
-    let a = c.before.before.before.before.before.before.args in
-    let some = c.before.before.before.if1.false in
-    runs_refused a.budget a.core a.program.now a.«data».now a.offer (omega (arith, some)) c.before.if2.true c.ended2.ensures
+    let a = c.args in
+    let some = c.if-budget-eq0.false in
+    runs_refused a.budget a.core a.program.now a.«data».now a.offer (omega (arith, some)) c.if-core-gt4.true c.ended-then-core-gt4.ensures
 
-returns_3 : tie.Need-returns-3
+returns_3 : tie.Need-returns
 returns_3 c =
     let ran = c.before.before.before.before.before.before in
     let wrote = ran.before.before.before.before in
@@ -41,11 +41,11 @@ returns_3 c =
     let a = start.args in
     let p = a.program.now in
     let m = a.«data».now in
-    let program : Bytes p = record { byte_lt = λ i. omega (arith, c.before.before.before.before.before.before.before.before.before.before.before.before.before.before.before.before.shared-slice-known.given i) } in
-    let bytes : Bytes m = record { byte_lt = λ i. omega (arith, c.before.before.before.before.before.before.before.before.before.before.before.before.before.before.before.slice-known.given i) } in
+    let program : Bytes p = record { byte_lt = λ i. omega (arith, c.shared_slice_known-1.given i) } in
+    let bytes : Bytes m = record { byte_lt = λ i. omega (arith, c.slice_known-1.given i) } in
     let vector = offer_in_range a.offer start.well-formed.1.1.1.0 in
-    runs_through a.budget a.core (replicate 38 0) wrote.write.new.1.0 p m a.offer (sound start c.before.before.before.before.before.before.before.before.before.before.before.before.if2.false) refl wrote.write.ensures.bytes
-    program bytes vector ran.run_in.result c.before.read.result ran.run_in.ensures c.before.read.ensures c.ended3.ensures
+    runs_through a.budget a.core (replicate 38 0) wrote.write.new.out p m a.offer (sound start c.if-core-gt4.false) refl wrote.write.ensures.bytes
+    program bytes vector ran.run_in-over.result c.read-read.result ran.run_in-over.ensures c.read-read.ensures c.ended-2.ensures
 
 pub run_spec : {M : Type 1} → statement M
 run_spec =

@@ -18,4 +18,4 @@ get_data_space_spec =
     (λ c. rw c.in-63.is)
     (λ c. rw c.in-62.is)
     (λ c. rw c.in-61.is)
-    (λ c. rw (data_elsewhere _ (search rules)) c.read.ensures))
+    (λ c. rw (data_elsewhere c.args.address (search rules)) c.read.ensures))

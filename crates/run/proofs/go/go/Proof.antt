@@ -17,7 +17,7 @@ use Rattle.run.proofs.go.go.Tie as tie
 abbrev First : ℕ → ℕ → Core → Core → List ℕ → List ℕ → List ℕ → Offer → Type 0
 First at at₀ k k₀ p m m₀ o = ((at ≡ at₀) × ((k ≡ k₀) × (m ≡ m₀))) ⊎ ((at₀ < at) × ((tick_of k₀ p m₀ o).answer ≡ Ran))
 
-abbrev invariant_loop : tie.invariant_loop
+abbrev invariant_loop : tie.invariant-loop-at
 invariant_loop regs₀ pc0 sp0 sreg0 inhibit0 in-service0 chip at0 program data₀ offered budget pc₀ sp₀ sreg₀ inhibit₀ in-service₀ at₀ regs «data» pc sp sreg inhibit in_service at =
     let k₀ = cored regs₀ (stood pc0 sp0 sreg0 0 inhibit0 in-service0) chip in
     let k = cored regs (stood pc sp sreg 0 inhibit in_service) chip in
@@ -25,7 +25,7 @@ invariant_loop regs₀ pc0 sp0 sreg0 inhibit0 in-service0 chip at0 program data�
     × (((o : Offer) → offers o ≡ offered → rest_of budget at0 k₀ program data₀ o ≡ rest_of budget at k program «data» o)
     × ((o : Offer) → offers o ≡ offered → First at at0 k k₀ program «data» data₀ o)))))
 
-abbrev decreases_loop : tie.decreases_loop
+abbrev decreases_loop : tie.decreases-loop-at
 decreases_loop regs₀ pc0 sp0 sreg0 inhibit0 in-service0 chip at0 program data₀ offered budget pc₀ sp₀ sreg₀ inhibit₀ in-service₀ at₀ regs «data» pc sp sreg inhibit in_service at = budget - at
 
 -- one turn, with a tick that ran from k
@@ -33,32 +33,32 @@ ran_first : (at at' at₀ : ℕ) (k k' k₀ : Core) (p m m' m₀ : List ℕ) (o 
 ran_first at at' at₀ k k' k₀ p m m' m₀ o on ran (inl (_, (e, f))) = inr (on, rw (e, f) at ran)
 ran_first at at' at₀ k k' k₀ p m m' m₀ o on ran (inr (_, h)) = inr (on, h)
 
-on_again : tie.Need-loop-preserved invariant_loop decreases_loop
+on_again : tie.Need-loop-at-preserved invariant_loop decreases_loop
 on_again c =
     let carried = c.before.before.before.before.before in
-    let made = carried.effect in
+    let made = carried.effect-made in
     let z = made.result in
     let behind = carried.before.before.before in
     let asked = behind.before.before.before in
-    let l = asked.before.before.before.before.loop in
-    let a = asked.before.before.before.before.before.before.before.before.args in
+    let l = asked.loop-at in
+    let a = asked.args in
     let p = a.program.now in
     let w = program_word_of p l.pc in
     let x = program_word_of p (l.pc + 1) in
-    let f = asked.tells.result in
-    let (low, runs) = asked.tells.ensures behind.before.before.if1.false in
-    let up_one : behind.wrapping-add-u16.result ≡ l.pc + 1 = omega (arith, low) in
-    let left = rw (up_one, behind.before.get_progmem.ensures) at made.ensures in
+    let f = asked.tells-form.result in
+    let (low, runs) = asked.tells-form.ensures behind.if-form-eq-UNDEF.false in
+    let up_one : behind.wrapping_add_u16-behind.result ≡ l.pc + 1 = omega (arith, low) in
+    let left = rw (up_one, behind.get_progmem-opcode.ensures) at made.ensures in
     let few = few_waits l.regs _ (l.pc + 1) l.sp l.sreg l.service a.chip z (instruction_of f w x) p l.«data» _ left in (
       omega arith,
       (
         λ h. omega (arith, few, l.invariant.1.0 h),
         (
-          c.before.before.before.before.regs.given ∙ l.invariant.1.1.0,
+          c.regs-1.given ∙ l.invariant.1.1.0,
           (
-            c.before.before.«data».given ∙ l.invariant.1.1.1.0,
+            c.data-1.given ∙ l.invariant.1.1.1.0,
             (
-              λ o e. l.invariant.1.1.1.1.0 o e ∙ carried_on l.regs _ (l.pc + 1) l.sp l.sreg l.service a.chip z (instruction_of f w x) p l.«data» _ left a.budget l.at _ o asked.before.before.before.loop-test.true (runs a.chip o e),
+              λ o e. l.invariant.1.1.1.1.0 o e ∙ carried_on l.regs _ (l.pc + 1) l.sp l.sreg l.service a.chip z (instruction_of f w x) p l.«data» _ left a.budget l.at _ o asked.loop-at-test.true (runs a.chip o e),
               λ o e. ran_first l.at _ a.at0 _ _ _ p l.«data» _ a.«data».now o (omega (arith, l.invariant.0)) (ap (λ (t : Tick). t.answer) (runs a.chip o e)) (l.invariant.1.1.1.1.1 o e),
             ),
           ),
@@ -77,17 +77,17 @@ go_spec =
     (λ c κs. search rules)
     (λ c. search rules)
     (λ c. search rules)
-    (λ c. let l = c.before.before.before.before.before.before.loop in rw c.went.ensures (record { onward = l.invariant.0; bounded = l.invariant.1.0; rest = l.invariant.1.1.1.1.0; first = l.invariant.1.1.1.1.1 }))
-    (λ c. let (low, _) = c.before.tells.ensures c.if1.false in omega (arith, low))
+    (λ c. let l = c.loop-at in rw c.went.ensures (record { onward = l.invariant.0; bounded = l.invariant.1.0; rest = l.invariant.1.1.1.1.0; first = l.invariant.1.1.1.1.1 }))
+    (λ c. let (low, _) = c.tells-form.ensures c.if-form-eq-UNDEF.false in omega (arith, low))
     (λ c κs. search rules)
     (λ c κs. search rules)
     (λ c κs. search rules)
     (λ c. search rules)
-    (λ c. let turn = c.before.before.before.before.before.before.before.before.before.before.before.before.before.before in omega (arith, turn.loop-test.true, turn.before.before.before.before.before.ranges.budget.fits))
-    (λ c. let turn = c.before.before.before.before.before.before.before.before.before.before.before.before.before.before in omega (arith, turn.loop-test.true, turn.before.before.before.before.before.ranges.budget.fits))
+    (λ c. let turn = c in omega (arith, turn.loop-at-test.true, turn.ranges.budget.fits))
+    (λ c. let turn = c in omega (arith, turn.loop-at-test.true, turn.ranges.budget.fits))
     (λ c. omega arith)
     on_again
     (λ c κs. search rules)
     (λ c. search rules)
     (λ c. search rules)
-    (λ c. let l = c.before.before.loop in rw c.went2.ensures (record { onward = l.invariant.0; bounded = l.invariant.1.0; rest = l.invariant.1.1.1.1.0; first = l.invariant.1.1.1.1.1 })))
+    (λ c. let l = c.loop-at in rw c.went-2.ensures (record { onward = l.invariant.0; bounded = l.invariant.1.0; rest = l.invariant.1.1.1.1.0; first = l.invariant.1.1.1.1.1 })))

@@ -19,13 +19,13 @@ use Rattle.run.proofs.Turns.{ends_spent, ends_refused, ends_stopped, ends_last, 
 use Rattle.run.proofs.over.advance.Statement.{statement}
 use Rattle.run.proofs.over.advance.Tie as tie
 
-abbrev invariant_loop : tie.invariant_loop
+abbrev invariant_loop : tie.invariant-loop-program
 invariant_loop snapshot₀ program0 data₀ offer budget program on at₀ snapshot «data» at =
     (at < budget) × ((length snapshot ≡ length snapshot₀) × ((length «data» ≡ length data₀)
     × (((read_of snapshot).refusal ≡ 0) × ((run_over budget snapshot₀ program0 data₀ offer ≡ rest_over budget at snapshot program0 «data» offer)
     × (at ≡ 0 → (said_by snapshot ≡ said_by snapshot₀) × («data» ≡ data₀))))))
 
-abbrev decreases_loop : tie.decreases_loop
+abbrev decreases_loop : tie.decreases-loop-program
 decreases_loop snapshot₀ program0 data₀ offer budget program on at₀ snapshot «data» at = budget - at
 
 -- the part of a program from its first byte
@@ -33,7 +33,7 @@ all : (p : List ℕ) → take (length p - 0) (drop 0 p) ≡ p
 all p = rw sub-zero (take_all (length p) p (omega arith))
 
 -- where a stretch ended: c is the place behind it
-module _ (c : tie.After-slice-known4 invariant_loop decreases_loop) where
+module _ (c : tie.After-slice_known-in-loop-program-2-1 invariant_loop decreases_loop) where
   abbrev start : tie.Start invariant_loop decreases_loop
   start = c.before.before.before.before.before.before.before.before.before.before.before.before.before
 
@@ -53,41 +53,41 @@ module _ (c : tie.After-slice-known4 invariant_loop decreases_loop) where
   b = start.args.budget
 
   abbrev s : List ℕ
-  s = c.before.before.before.before.stretch.new.0
+  s = c.stretch-done.new.snapshot
 
   abbrev m : List ℕ
-  m = c.before.before.before.before.stretch.new.1.1.0
+  m = c.stretch-done.new.«data»
 
   abbrev done : ℕ
-  done = c.before.before.before.before.stretch.result
+  done = c.stretch-done.result
 
   -- at the loop's head
   abbrev s₁ : List ℕ
-  s₁ = c.before.before.before.before.before.before.before.loop.snapshot
+  s₁ = c.loop-program.snapshot
 
   abbrev m₁ : List ℕ
-  m₁ = c.before.before.before.before.before.before.before.loop.«data»
+  m₁ = c.loop-program.«data»
 
   abbrev at : ℕ
-  at = c.before.before.before.before.before.before.before.loop.at
+  at = c.loop-program.at
 
   abbrev on : Bool
-  on = c.before.before.before.before.before.before.before.before.offered.result
+  on = c.offered-on.result
 
   on_is : offers o ≡ on
-  on_is = sym c.before.before.before.before.before.before.before.before.offered.ensures
+  on_is = sym c.offered-on.ensures
 
   went : Stretches s₁ p m₁ on at b done s m
-  went = subst (λ (x : List ℕ). Stretches s₁ x m₁ on at b done s m) (all p) c.before.before.before.before.stretch.ensures
+  went = subst (λ (x : List ℕ). Stretches s₁ x m₁ on at b done s m) (all p) c.stretch-done.ensures
 
   stands : run_over b s₀ p m₀ o ≡ rest_over b done s p m o
-  stands = c.before.before.before.before.before.before.before.loop.invariant.1.1.1.1.0 ∙ went.rest o on_is
+  stands = c.loop-program.invariant.1.1.1.1.0 ∙ went.rest o on_is
 
   -- a run of one tick: the stretch did nothing, or that tick
   first : b ≡ 1 → (said_by s₀).busy ≡ 0 → ((done ≡ 0) × ((said_by s ≡ said_by s₀) × (m ≡ m₀))) ⊎ ((0 < done) × ((tick_over s₀ p m₀ o).answer ≡ Ran))
   first e f =
-      let none : at ≡ 0 = omega (arith, c.before.before.before.before.before.before.before.loop.invariant.0, e) in
-      let began = c.before.before.before.before.before.before.before.loop.invariant.1.1.1.1.1 none in
+      let none : at ≡ 0 = omega (arith, c.loop-program.invariant.0, e) in
+      let began = c.loop-program.invariant.1.1.1.1.1 none in
       elim (went.first o on_is (ap (λ (k : Core). k.busy) began.0 ∙ f)) [
         | inl u ↦ inl (u.0 ∙ none, (u.1.0 ∙ began.0, u.1.1 ∙ began.1))
         | inr u ↦ inr (omega (arith, u.0), ap (λ (k : Core). (tick_of k p m₀ o).answer) (sym began.0) ∙ ap (λ (x : List ℕ). (tick_of (said_by s₁) p x o).answer) (sym began.1) ∙ u.1)
@@ -112,101 +112,101 @@ module _ (c : tie.After-slice-known4 invariant_loop decreases_loop) where
   begins = long s₀ start.pre.0
 
   same_snapshot : length s ≡ length s₀
-  same_snapshot = c.before.before.before.before.stretch.auto.0 ∙ c.before.before.before.before.before.before.before.loop.invariant.1.0
+  same_snapshot = c.stretch-done.auto.snapshot ∙ c.loop-program.invariant.1.0
 
   same_data : length m ≡ length m₀
-  same_data = c.before.before.before.before.stretch.auto.1.1.0 ∙ c.before.before.before.before.before.before.before.loop.invariant.1.1.0
+  same_data = c.stretch-done.auto.«data» ∙ c.loop-program.invariant.1.1.0
 
   snapshot_bytes : Bytes s
-  snapshot_bytes = record { byte_lt = λ i. omega (arith, c.before.before.slice-known3.given i) }
+  snapshot_bytes = record { byte_lt = λ i. omega (arith, c.slice_known-in-loop-program-1.given i) }
 
   data_bytes : Bytes m
-  data_bytes = record { byte_lt = λ i. omega (arith, c.slice-known4.given i) }
+  data_bytes = record { byte_lt = λ i. omega (arith, c.slice_known-in-loop-program-2-1.given i) }
 
   program_bytes : Bytes p
-  program_bytes = record { byte_lt = λ i. omega (arith, c.before.before.before.before.before.before.before.before.before.before.before.shared-slice-known.given i) }
+  program_bytes = record { byte_lt = λ i. omega (arith, c.shared_slice_known-1.given i) }
 
   vector : Offered o
   vector = offer_in_range o start.good.1.1.1.0
 
 -- where a whole tick followed it: c is the place behind its number
-module _ (c : tie.After-number invariant_loop decreases_loop) where
-  abbrev here : tie.After-slice-known4 invariant_loop decreases_loop
+module _ (c : tie.After-number-number invariant_loop decreases_loop) where
+  abbrev here : tie.After-slice_known-in-loop-program-2-1 invariant_loop decreases_loop
   here = c.before.before.before.before.before.before.before.before.before
 
   abbrev t : Tick
   t = tick_over (s here) (p here) (m here) (o here)
 
   abbrev answer : Answer
-  answer = c.before.before.before.before.before.whole.result
+  answer = c.whole-answer.result
 
   abbrev s' : List ℕ
-  s' = c.before.before.before.before.before.whole.new.0
+  s' = c.whole-answer.new.snapshot
 
   abbrev m' : List ℕ
-  m' = c.before.before.before.before.before.whole.new.1.1.0
+  m' = c.whole-answer.new.«data»
 
   ticked : TickedOver (s here) (p here) (m here) (o here) answer s' m'
-  ticked = subst (λ (x : List ℕ). TickedOver (s here) x (m here) (o here) answer s' m') (all (p here)) c.before.before.before.before.before.whole.ensures
+  ticked = subst (λ (x : List ℕ). TickedOver (s here) x (m here) (o here) answer s' m') (all (p here)) c.whole-answer.ensures
 
-  numbered : c.number.result ≡ number_of t.answer
-  numbered = c.number.ensures ∙ ap number_of ticked.answer
+  numbered : c.number-number.result ≡ number_of t.answer
+  numbered = c.number-number.ensures ∙ ap number_of ticked.answer
 
   near : done here < b here
-  near = let h = c.before.before.before.before.before.before.before.before.if1.false in omega (arith, bounded here, h)
+  near = let h = c.if-done-budget.false in omega (arith, bounded here, h)
 
   same_snapshot_2 : length s' ≡ length (s₀ here)
-  same_snapshot_2 = c.before.before.before.before.before.whole.auto.0 ∙ same_snapshot here
+  same_snapshot_2 = c.whole-answer.auto.snapshot ∙ same_snapshot here
 
   same_data_2 : length m' ≡ length (m₀ here)
-  same_data_2 = c.before.before.before.before.before.whole.auto.1.1.0 ∙ same_data here
+  same_data_2 = c.whole-answer.auto.«data» ∙ same_data here
 
-returns : tie.Need-returns invariant_loop decreases_loop
+returns : tie.Need-returns-then-done-budget invariant_loop decreases_loop
 returns c =
     let h = c.before.before in
-    let spent = c.before.if1.true in
+    let spent = c.if-done-budget.true in
     ends_spent (b h) (done h) (s₀ h) (p h) (m₀ h) (s h) (m h) (o h) (begins h) (stands h) (read h) (snapshot_bytes h) c.told.result
     (ap (λ a. a.answer) c.told.ensures) (ap (λ a. a.ticks) c.told.ensures ∙ sym spent) (omega (arith, spent)) (first_spent h spent)
 
-returns_2 : tie.Need-returns-2 invariant_loop decreases_loop
+returns_2 : tie.Need-returns-then-refuses invariant_loop decreases_loop
 returns_2 c =
     let w = c.before.before.before in
     let h = here w in
-    let refused = ap refuses (sym (ticked w).answer) ∙ sym c.before.before.refuses.ensures ∙ c.before.if2.true in
+    let refused = ap refuses (sym (ticked w).answer) ∙ sym c.refuses.ensures ∙ c.if-refuses.true in
     ends_refused (b h) (done h) (s₀ h) (p h) (m₀ h) (s h) (m h) (o h) (begins h) (stands h) (read h) (snapshot_bytes h)
-    (program_bytes h) (data_bytes h) (vector h) (ticked w).snapshot (ticked w).bytes (near w) c.told2.result
-    (ap (λ a. a.answer) c.told2.ensures ∙ numbered w) (first_short h (near w)) refused (ap (λ a. a.ticks) c.told2.ensures)
+    (program_bytes h) (data_bytes h) (vector h) (ticked w).snapshot-1 (ticked w).bytes (near w) c.told-then-refuses.result
+    (ap (λ a. a.answer) c.told-then-refuses.ensures ∙ numbered w) (first_short h (near w)) refused (ap (λ a. a.ticks) c.told-then-refuses.ensures)
 
-returns_3 : tie.Need-returns-3 invariant_loop decreases_loop
+returns_3 : tie.Need-returns-then-stops invariant_loop decreases_loop
 returns_3 c =
     let w = c.before.before.before.before.before in
     let h = here w in
-    let went = ap refuses (sym (ticked w).answer) ∙ sym c.before.before.before.before.refuses.ensures ∙ c.before.before.before.if2.false in
-    let stopped = ap stops (sym (ticked w).answer) ∙ sym c.before.before.stops.ensures ∙ c.before.if3.true in
+    let went = ap refuses (sym (ticked w).answer) ∙ sym c.refuses.ensures ∙ c.if-refuses.false in
+    let stopped = ap stops (sym (ticked w).answer) ∙ sym c.stops.ensures ∙ c.if-stops.true in
     ends_stopped (b h) (done h) (s₀ h) (p h) (m₀ h) (s h) (m h) (o h) (begins h) (stands h) (read h) (snapshot_bytes h)
-    (program_bytes h) (data_bytes h) (vector h) (ticked w).snapshot (ticked w).bytes (near w) c.told3.result
-    (ap (λ a. a.answer) c.told3.ensures ∙ numbered w) (first_short h (near w)) went stopped (ap (λ a. a.ticks) c.told3.ensures)
+    (program_bytes h) (data_bytes h) (vector h) (ticked w).snapshot-1 (ticked w).bytes (near w) c.told-then-stops.result
+    (ap (λ a. a.answer) c.told-then-stops.ensures ∙ numbered w) (first_short h (near w)) went stopped (ap (λ a. a.ticks) c.told-then-stops.ensures)
 
-returns_4 : tie.Need-returns-4 invariant_loop decreases_loop
+returns_4 : tie.Need-returns-then-next-budget invariant_loop decreases_loop
 returns_4 c =
     let w = c.before.before.before.before.before.before in
     let h = here w in
-    let went = ap refuses (sym (ticked w).answer) ∙ sym c.before.before.before.before.before.refuses.ensures ∙ c.before.before.before.before.if2.false in
-    let on = ap stops (sym (ticked w).answer) ∙ sym c.before.before.before.stops.ensures ∙ c.before.before.if3.false in
+    let went = ap refuses (sym (ticked w).answer) ∙ sym c.refuses.ensures ∙ c.if-refuses.false in
+    let on = ap stops (sym (ticked w).answer) ∙ sym c.stops.ensures ∙ c.if-stops.false in
     ends_last (b h) (done h) (s₀ h) (p h) (m₀ h) (s h) (m h) (o h) (begins h) (stands h) (read h) (snapshot_bytes h)
-    (program_bytes h) (data_bytes h) (vector h) (ticked w).snapshot (ticked w).bytes (near w) c.told4.result
-    (ap (λ a. a.answer) c.told4.ensures ∙ numbered w) (first_short h (near w)) went on c.before.if4.true (ap (λ a. a.ticks) c.told4.ensures)
+    (program_bytes h) (data_bytes h) (vector h) (ticked w).snapshot-1 (ticked w).bytes (near w) c.told-then-next-budget.result
+    (ap (λ a. a.answer) c.told-then-next-budget.ensures ∙ numbered w) (first_short h (near w)) went on c.if-next-budget.true (ap (λ a. a.ticks) c.told-then-next-budget.ensures)
 
-loop_again : tie.Need-loop-preserved invariant_loop decreases_loop
+loop_again : tie.Need-loop-program-preserved invariant_loop decreases_loop
 loop_again c =
     let w = c.before.before.before.before.before in
     let h = here w in
-    let went = ap refuses (sym (ticked w).answer) ∙ sym c.before.before.before.before.refuses.ensures ∙ c.before.before.before.if2.false in
-    let on = ap stops (sym (ticked w).answer) ∙ sym c.before.before.stops.ensures ∙ c.before.if3.false in
-    let more = c.if4.false in
-    let next = next_read (s h) (p h) (m h) (o h) (read h) (snapshot_bytes h) (program_bytes h) (data_bytes h) (vector h) (ticked w).snapshot in
+    let went = ap refuses (sym (ticked w).answer) ∙ sym c.refuses.ensures ∙ c.if-refuses.false in
+    let on = ap stops (sym (ticked w).answer) ∙ sym c.stops.ensures ∙ c.if-stops.false in
+    let more = c.if-next-budget.false in
+    let next = next_read (s h) (p h) (m h) (o h) (read h) (snapshot_bytes h) (program_bytes h) (data_bytes h) (vector h) (ticked w).snapshot-1 in
     let rest = goes_on (b h) (done h) (s₀ h) (p h) (m₀ h) (s h) (m h) (o h) (begins h) (stands h) (read h) (snapshot_bytes h)
-    (program_bytes h) (data_bytes h) (vector h) (ticked w).snapshot (ticked w).bytes (near w) went on in
+    (program_bytes h) (data_bytes h) (vector h) (ticked w).snapshot-1 (ticked w).bytes (near w) went on in
     (omega (arith, near w, more), (same_snapshot_2 w, (same_data_2 w, (ap (λ r. r.refusal) next, (rest, λ z. absurd (omega (arith, z)))))))
 
 pub advance_spec : {M : Type 1} → statement M
@@ -219,8 +219,8 @@ advance_spec =
     (λ c. search rules)
     (λ c. search rules)
     (λ c κs. search rules)
-    (λ c. let start = c.before.before.before.before.before in (start.requires.1, (refl, (refl, (start.requires.0, (begun _ _ _ _ _, λ z. (refl, refl)))))))
-    (λ c κs. let l = c.before.before.loop in (l.invariant.1.1.1.0, l.invariant.0))
+    (λ c. let start = c in (start.requires.1, (refl, (refl, (start.requires.0, (begun _ _ _ _ _, λ z. (refl, refl)))))))
+    (λ c κs. let l = c.loop-program in (l.invariant.1.1.1.0, l.invariant.0))
     (λ c κs. search rules)
     (λ c. same_snapshot c.before.before)
     (λ c. same_data c.before.before)
@@ -242,5 +242,5 @@ advance_spec =
     (λ c. same_snapshot_2 c.before.before.before.before.before.before)
     (λ c. same_data_2 c.before.before.before.before.before.before)
     returns_4
-    (λ c. let w = c.before.before.before.before.before in omega (arith, near w, onward (here w)))
+    (λ c. let w = c in omega (arith, near w, onward (here w)))
     loop_again)

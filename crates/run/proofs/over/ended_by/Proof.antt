@@ -8,6 +8,6 @@ pub ended_by_spec : {M : Type 1} → statement M
 ended_by_spec =
     tie.close
     (tie.spec
-    (λ c. rw (lt-ltb _ _ c.if1.true))
-    (λ c. rw (le-ltb _ _ c.before.if1.false, lt-ltb _ _ c.if2.true))
-    (λ c. rw (le-ltb _ _ c.before.if1.false, le-ltb _ _ c.if2.false)))
+    (λ c. rw (lt-ltb _ _ c.if-answer-lt16.true))
+    (λ c. rw (le-ltb _ _ c.if-answer-lt16.false, lt-ltb _ _ c.if-answer-lt22.true))
+    (λ c. rw (le-ltb _ _ c.if-answer-lt16.false, le-ltb _ _ c.if-answer-lt22.false)))

@@ -8,10 +8,10 @@ pub refused_spec : {M : Type 1} → statement M
 refused_spec =
     tie.close
     (tie.spec
-    (λ c. rw (ne_eqb _ _ c.if1.true))
+    (λ c. rw (ne_eqb _ _ c.if-snapshot-ne38.true))
     (λ c. search rules)
-    (λ c. rw (eq-eqb _ _ c.before.before.if1.false, lt-ltb _ _ c.if2.true))
-    (λ c. let last = get_or c.before.before.before.before.args.snapshot.now 37 0 in
-    rw (eq-eqb _ _ c.before.before.before.if1.false, le-ltb _ _ c.before.if2.false, ne_eqb (last % 4) 0 c.if3.true))
-    (λ c. let last = get_or c.before.before.before.before.args.snapshot.now 37 0 in
-    rw (eq-eqb _ _ c.before.before.before.if1.false, le-ltb _ _ c.before.if2.false, eq-eqb (last % 4) 0 c.if3.false)))
+    (λ c. rw (eq-eqb _ _ c.if-snapshot-ne38.false, lt-ltb _ _ c.if-last-gt4.true))
+    (λ c. let last = get_or c.args.snapshot.now 37 0 in
+    rw (eq-eqb _ _ c.if-snapshot-ne38.false, le-ltb _ _ c.if-last-gt4.false, ne_eqb (last % 4) 0 c.if-last-ne0.true))
+    (λ c. let last = get_or c.args.snapshot.now 37 0 in
+    rw (eq-eqb _ _ c.if-snapshot-ne38.false, le-ltb _ _ c.if-last-gt4.false, eq-eqb (last % 4) 0 c.if-last-ne0.false)))

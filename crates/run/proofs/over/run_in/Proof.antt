@@ -8,31 +8,31 @@ use Rattle.run.proofs.over.run_in.Statement.{statement}
 use Rattle.run.proofs.over.run_in.Tie as tie
 
 -- where the checks are passed
-passed : (c : tie.Else1) → (read_of c.before.before.before.before.before.before.args.snapshot.now).refusal ≡ 0
-passed c = sym c.before.refused.ensures ∙ c.if1.false
+passed : (c : tie.Else-refusal-ne0) → (read_of c.before.before.before.before.before.before.args.snapshot.now).refusal ≡ 0
+passed c = sym c.before.refused-refusal.ensures ∙ c.if-refusal-ne0.false
 
-returns : tie.Need-returns
+returns : tie.Need-returns-then-refusal-ne0
 returns c =
-    let a = c.before.before.before.before.before.before.before.args in
-    let said = c.before.before.refused.ensures in
-    run_refused a.snapshot.now a.program.now a.«data».now a.offer (λ z. c.before.if1.true (said ∙ z)) a.budget c.told.result
+    let a = c.args in
+    let said = c.refused-refusal.ensures in
+    run_refused a.snapshot.now a.program.now a.«data».now a.offer (λ z. c.if-refusal-ne0.true (said ∙ z)) a.budget c.told.result
     (ap (λ x. x.answer) c.told.ensures ∙ said) (ap (λ x. x.ticks) c.told.ensures)
 
-returns_2 : tie.Need-returns-2
+returns_2 : tie.Need-returns-then-budget-eq0
 returns_2 c =
-    let a = c.before.before.before.before.before.before.before.before.args in
+    let a = c.args in
     let s = a.snapshot.now in
-    let bytes : Bytes s = record { byte_lt = λ i. omega (arith, c.before.before.before.before.before.before.before.slice-known.given i) } in
-    rw c.before.if2.true
-    (run_none s a.program.now a.«data».now a.offer (passed c.before.before) bytes c.told2.result
-    (ap (λ x. x.answer) c.told2.ensures) (ap (λ x. x.ticks) c.told2.ensures))
+    let bytes : Bytes s = record { byte_lt = λ i. omega (arith, c.slice_known-1.given i) } in
+    rw c.if-budget-eq0.true
+    (run_none s a.program.now a.«data».now a.offer (passed c.before.before) bytes c.told-then-budget-eq0.result
+    (ap (λ x. x.answer) c.told-then-budget-eq0.ensures) (ap (λ x. x.ticks) c.told-then-budget-eq0.ensures))
 
-returns_3 : tie.Need-returns-3
+returns_3 : tie.Need-returns
 returns_3 c =
-    let a = c.before.before.before.before.before.before.before.before.before.before.before.before.before.before.before.before.args in
-    let ran = c.before.before.before.before.before.before.advance in
-    run_passed a.snapshot.now a.program.now a.«data».now a.offer (passed c.before.before.before.before.before.before.before.before.before.before) a.budget ran.result c.told3.result ran.ensures
-    (ap (λ x. x.answer) c.told3.ensures ∙ c.before.ended_by.ensures) (ap (λ x. x.ticks) c.told3.ensures)
+    let a = c.args in
+    let ran = c.advance-ran in
+    run_passed a.snapshot.now a.program.now a.«data».now a.offer (passed c.before.before.before.before.before.before.before.before.before.before) a.budget ran.result c.told-2.result ran.ensures
+    (ap (λ x. x.answer) c.told-2.ensures ∙ c.ended_by.ensures) (ap (λ x. x.ticks) c.told-2.ensures)
 
 pub run_in_spec : {M : Type 1} → statement M
 run_in_spec =
@@ -45,7 +45,7 @@ run_in_spec =
     (λ c κs. search rules)
     (λ c. search rules)
     returns_2
-    (λ c κs. let some = c.before.before.if2.false in (passed c.before.before.before, omega (arith, some)))
+    (λ c κs. let some = c.if-budget-eq0.false in (passed c.before.before.before, omega (arith, some)))
     (λ c κs. search rules)
     (λ c κs. search rules)
     (λ c. search rules)

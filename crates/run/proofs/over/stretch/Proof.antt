@@ -14,7 +14,7 @@ taken s e = length-take-le 32 s (omega arith)
 came : (rs s : List ℕ) → length s ≡ 38 → length rs ≡ length (take 32 s) → length rs ≡ 32
 came rs s e h = h ∙ taken s e
 
-slice_aggregate_go : tie.Need-slice-aggregate-go
+slice_aggregate_go : tie.Need-slice_bounds-go-end-2
 slice_aggregate_go c =
     let start = c.before.before.before.before.before.before.before.before.before.before in
     let s = start.args.snapshot.now in
@@ -28,12 +28,12 @@ leave_requires c κs =
     let a = start.args in
     let s = a.snapshot.now in
     let e = long s start.requires.0 in
-    let g = went.go.result in
-    let rs = went.go.new.0 in
-    let n = came rs s e went.go.auto.0 in
-    let small : c.before.flags.result ≤ 28 = omega (arith, c.before.flags.ensures, one_le g.inhibit, one_le g.in_service, one_le (eqb (get_or s 37 0 / 4 % 2) 1)) in
-    let near = went.go.ensures.bounded (omega (arith, brief s start.requires.0, start.requires.1)) in
-    ((long_kept rs s n e, went.before.before.before.before.word-at2.ensures ∙ sp_kept rs s n e), (small, near))
+    let g = went.go-gone.result in
+    let rs = went.go-gone.new.regs in
+    let n = came rs s e went.go-gone.auto.regs in
+    let small : c.flags-rest.result ≤ 28 = omega (arith, c.flags-rest.ensures, one_le g.inhibit, one_le g.in_service, one_le (eqb (get_or s 37 0 / 4 % 2) 1)) in
+    let near = went.go-gone.ensures.bounded (omega (arith, brief s start.requires.0, start.requires.1)) in
+    ((long_kept rs s n e, went.word_at-sp.ensures ∙ sp_kept rs s n e), (small, near))
 
 returns : tie.Need-returns
 returns c =
@@ -45,28 +45,28 @@ returns c =
     let a = start.args in
     let s = a.snapshot.now in
     let h = start.requires.0 in
-    let g = went.go.result in
-    let rs = went.go.new.0 in
-    let m' = went.go.new.1.1.1.1.1.1.1.1.1.0 in
-    let n = came rs s (long s h) went.go.auto.0 in
-    let f : Bytes rs = record { byte_lt = front_bytes rs (drop 32 s) (λ i. omega (arith, flagged.before.before.before.slice-known5.given i)) } in
-    let pc = went.before.before.before.before.before.before.word_at.ensures in
-    let sp = went.before.before.before.before.word-at2.ensures in
-    let w : went_in s a.program.now a.«data».now a.on a.at a.budget g rs m' = rw (← pc, ← sp) went.go.ensures in
-    stretched s a.program.now a.«data».now a.on a.at a.budget g rs m' h start.requires.1 w n f (omega (arith, went.go.type-inv)) (omega (arith, went.go.type-inv)) (omega (arith, went.go.type-inv))
-    left.leave.ensures.1 (rw (← flagged.flags.ensures) left.leave.ensures.0)
+    let g = went.go-gone.result in
+    let rs = went.go-gone.new.regs in
+    let m' = went.go-gone.new.«data» in
+    let n = came rs s (long s h) went.go-gone.auto.regs in
+    let f : Bytes rs = record { byte_lt = front_bytes rs (drop 32 s) (λ i. omega (arith, flagged.slice_known-5-1.given i)) } in
+    let pc = went.word_at-pc.ensures in
+    let sp = went.word_at-sp.ensures in
+    let w : went_in s a.program.now a.«data».now a.on a.at a.budget g rs m' = rw (← pc, ← sp) went.go-gone.ensures in
+    stretched s a.program.now a.«data».now a.on a.at a.budget g rs m' h start.requires.1 w n f (omega (arith, went.go-gone.type-inv)) (omega (arith, went.go-gone.type-inv)) (omega (arith, went.go-gone.type-inv))
+    left.leave.ensures.1 (rw (← flagged.flags-rest.ensures) left.leave.ensures.0)
 
 pub stretch_spec : {M : Type 1} → statement M
 stretch_spec =
     tie.close
     (tie.spec
-    (λ c. let start = c.before.before.before.before in omega (arith, long start.args.snapshot.now start.requires.0))
-    (λ c κs. let start = c.before.before.before.before.before in omega (arith, long start.args.snapshot.now start.requires.0))
-    (λ c κs. let start = c.before.before.before.before.before.before.before in omega (arith, long start.args.snapshot.now start.requires.0))
-    (λ c. let start = c.before.before.before.before.before.before.before.before.before in omega (arith, long start.args.snapshot.now start.requires.0))
-    (λ c. let start = c.before.before.before.before.before.before.before.before.before in omega (arith, brief start.args.snapshot.now start.requires.0))
-    (λ c. let start = c.before.before.before.before.before.before.before.before.before in omega (arith, start.ranges.at.fits, brief start.args.snapshot.now start.requires.0))
-    (λ c. let start = c.before.before.before.before.before.before.before.before.before in omega (arith, long start.args.snapshot.now start.requires.0))
+    (λ c. let start = c in omega (arith, long start.args.snapshot.now start.requires.0))
+    (λ c κs. let start = c in omega (arith, long start.args.snapshot.now start.requires.0))
+    (λ c κs. let start = c in omega (arith, long start.args.snapshot.now start.requires.0))
+    (λ c. let start = c in omega (arith, long start.args.snapshot.now start.requires.0))
+    (λ c. let start = c in omega (arith, brief start.args.snapshot.now start.requires.0))
+    (λ c. let start = c in omega (arith, start.ranges.at.fits, brief start.args.snapshot.now start.requires.0))
+    (λ c. let start = c in omega (arith, long start.args.snapshot.now start.requires.0))
     slice_aggregate_go
     (λ c κs. search rules)
     (λ c κs. search rules)

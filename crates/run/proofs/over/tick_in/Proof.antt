@@ -9,29 +9,29 @@ use Rattle.run.proofs.over.tick_in.Statement.{statement}
 use Rattle.run.proofs.over.tick_in.Tie as tie
 
 -- where the checks are passed
-passed : (c : tie.Else1) → (read_of c.before.before.before.before.before.before.args.snapshot.now).refusal ≡ 0
-passed c = sym c.before.refused.ensures ∙ c.if1.false
+passed : (c : tie.Else-refusal-ne0) → (read_of c.before.before.before.before.before.before.args.snapshot.now).refusal ≡ 0
+passed c = sym c.before.refused-refusal.ensures ∙ c.if-refusal-ne0.false
 
-returns : tie.Need-returns
+returns : tie.Need-returns-then-refusal-ne0
 returns c =
-    let a = c.before.before.before.before.before.before.args in
-    let said = c.before.refused.ensures in
-    tick_refused a.snapshot.now a.program.now a.«data».now a.offer (λ z. c.if1.true (said ∙ z)) said
+    let a = c.args in
+    let said = c.refused-refusal.ensures in
+    tick_refused a.snapshot.now a.program.now a.«data».now a.offer (λ z. c.if-refusal-ne0.true (said ∙ z)) said
 
-returns_2 : tie.Need-returns-2
+returns_2 : tie.Need-returns-then-last-ge32
 returns_2 c =
-    let a = c.before.before.before.before.before.before.before.before.args in
+    let a = c.args in
     let s = a.snapshot.now in
-    let bytes : Bytes s = record { byte_lt = λ i. omega (arith, c.before.slice-known3.given i) } in
-    tick_waits s a.program.now a.«data».now a.offer (passed c.before.before) bytes (omega (arith, c.if2.true))
+    let bytes : Bytes s = record { byte_lt = λ i. omega (arith, c.slice_known-3-1.given i) } in
+    tick_waits s a.program.now a.«data».now a.offer (passed c.before.before) bytes (omega (arith, c.if-last-ge32.true))
 
-returns_3 : tie.Need-returns-3
+returns_3 : tie.Need-returns
 returns_3 c =
-    let a = c.before.before.before.before.before.before.before.before.before.before.before.before.before.before.before.args in
+    let a = c.args in
     let s = a.snapshot.now in
     let h = passed c.before.before.before.before.before.before.before.before.before in
-    let ran = c.before.before.before.before.advance in
-    tick_advanced s a.program.now a.«data».now a.offer h ran.result ran.ensures (said_busy s h ∙ omega (arith, c.before.before.before.before.before.before.before.if2.false))
+    let ran = c.advance in
+    tick_advanced s a.program.now a.«data».now a.offer h ran.result ran.ensures (said_busy s h ∙ omega (arith, c.if-last-ge32.false))
 
 pub tick_in_spec : {M : Type 1} → statement M
 tick_in_spec =
@@ -40,8 +40,8 @@ tick_in_spec =
     (λ c κs. search rules)
     (λ c. search rules)
     returns
-    (λ c. omega (arith, long c.before.before.before.before.before.before.before.args.snapshot.now (passed c.before)))
-    (λ c. omega (arith, long c.before.before.before.before.before.before.before.before.args.snapshot.now (passed c.before.before)))
+    (λ c. omega (arith, long c.args.snapshot.now (passed c.before)))
+    (λ c. omega (arith, long c.args.snapshot.now (passed c.before.before)))
     (λ c. search rules)
     returns_2
     (λ c κs. (passed c.before.before.before.before, omega arith))

@@ -9,5 +9,5 @@ is_due_spec =
     tie.close
     (tie.spec
     (λ c κs. search rules)
-    (λ c. rw (c.before.if1.true, c.bit.ensures))
-    (λ c. rw c.if1.false))
+    (λ c. rw (c.if-offered.true, c.bit.ensures))
+    (λ c. rw c.if-offered.false))

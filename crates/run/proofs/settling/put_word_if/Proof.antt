@@ -10,5 +10,5 @@ put_word_if_spec =
     (tie.spec
     (λ c κs. search rules)
     (λ c. search rules)
-    (λ c. rw c.before.before.before.before.if1.true c.before.before.put_word.ensures)
+    (λ c. rw c.if-on.true c.put_word.ensures)
     (λ c. search rules))

@@ -9,10 +9,10 @@ word_at_spec =
     tie.close
     (tie.spec
     (λ c. search rules)
-    (λ c. omega (arith, c.shared-slice-known.given c.before.args.at))
-    (λ c. omega (arith, c.shared-slice-known.given c.before.args.at))
+    (λ c. omega (arith, c.shared_slice_known-1.given c.args.at))
+    (λ c. omega (arith, c.shared_slice_known-1.given c.args.at))
     (λ c. search rules)
     (λ c. search rules)
-    (λ c. omega (arith, c.shared-slice-known2.given (c.before.before.args.at + 1)))
-    (λ c. omega (arith, c.before.shared-slice-known.given c.before.before.args.at, c.shared-slice-known2.given (c.before.before.args.at + 1)))
+    (λ c. omega (arith, c.shared_slice_known-2-1.given (c.args.at + 1)))
+    (λ c. omega (arith, c.shared_slice_known-1.given c.args.at, c.shared_slice_known-2-1.given (c.args.at + 1)))
     (λ c. search rules))
