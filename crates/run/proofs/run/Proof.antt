@@ -16,9 +16,9 @@ sound c h =
     record {
       count = search rules;
       reg_lt = λ i. (byte i).fits;
-      sreg_lt = omega (arith, c.well-formed.0);
-      pc_lt = omega (arith, c.well-formed.0);
-      sp_lt = omega (arith, c.well-formed.0);
+      sreg_lt = omega (arith, c.well_formed.0);
+      pc_lt = omega (arith, c.well_formed.0);
+      sp_lt = omega (arith, c.well_formed.0);
       busy_le = h;
     }
 
@@ -37,13 +37,13 @@ returns_3 : tie.Need-returns
 returns_3 c =
     let ran = c.before.before.before.before.before.before in
     let wrote = ran.before.before.before.before in
-    let start = c.before.before.before.before.before.before.before.before.before.before.before.before.before.before.before.before.before in
+    let start = c.before.before.before.before.before.before.before.before.before.before.before.before.before.before.before.before.before.before in
     let a = start.args in
     let p = a.program.now in
     let m = a.«data».now in
     let program : Bytes p = record { byte_lt = λ i. omega (arith, c.shared_slice_known-1.given i) } in
     let bytes : Bytes m = record { byte_lt = λ i. omega (arith, c.slice_known-1.given i) } in
-    let vector = offer_in_range a.offer start.well-formed.1.1.1.0 in
+    let vector = offer_in_range a.offer start.well_formed.1.1.1.0 in
     runs_through a.budget a.core (replicate 38 0) wrote.write.new.out p m a.offer (sound start c.if-core-gt4.false) refl wrote.write.ensures.bytes
     program bytes vector ran.run_in-over.result c.read-read.result ran.run_in-over.ensures c.read-read.ensures c.ended-2.ensures
 

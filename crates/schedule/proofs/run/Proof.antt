@@ -24,9 +24,9 @@ sound c h =
     record {
       count = search rules;
       reg_lt = λ i. (byte i).fits;
-      sreg_lt = omega (arith, c.well-formed.0);
-      pc_lt = omega (arith, c.well-formed.0);
-      sp_lt = omega (arith, c.well-formed.0);
+      sreg_lt = omega (arith, c.well_formed.0);
+      pc_lt = omega (arith, c.well_formed.0);
+      sp_lt = omega (arith, c.well_formed.0);
       busy_le = h;
     }
 

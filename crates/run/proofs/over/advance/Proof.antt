@@ -109,7 +109,7 @@ module _ (c : tie.After-slice_known-in-loop-program-2-1 invariant_loop decreases
   read = went.read
 
   begins : length s₀ ≡ 38
-  begins = long s₀ start.pre.0
+  begins = long s₀ start.requires.0
 
   same_snapshot : length s ≡ length s₀
   same_snapshot = c.stretch-done.auto.snapshot ∙ c.loop-program.invariant.1.0
@@ -127,7 +127,7 @@ module _ (c : tie.After-slice_known-in-loop-program-2-1 invariant_loop decreases
   program_bytes = record { byte_lt = λ i. omega (arith, c.shared_slice_known-1.given i) }
 
   vector : Offered o
-  vector = offer_in_range o start.good.1.1.1.0
+  vector = offer_in_range o start.well_formed.1.1.1.0
 
 -- where a whole tick followed it: c is the place behind its number
 module _ (c : tie.After-number-number invariant_loop decreases_loop) where
@@ -174,7 +174,7 @@ returns_2 c =
     let h = here w in
     let refused = ap refuses (sym (ticked w).answer) ∙ sym c.refuses.ensures ∙ c.if-refuses.true in
     ends_refused (b h) (done h) (s₀ h) (p h) (m₀ h) (s h) (m h) (o h) (begins h) (stands h) (read h) (snapshot_bytes h)
-    (program_bytes h) (data_bytes h) (vector h) (ticked w).snapshot-1 (ticked w).bytes (near w) c.told-then-refuses.result
+    (program_bytes h) (data_bytes h) (vector h) (ticked w).snapshot (ticked w).bytes (near w) c.told-then-refuses.result
     (ap (λ a. a.answer) c.told-then-refuses.ensures ∙ numbered w) (first_short h (near w)) refused (ap (λ a. a.ticks) c.told-then-refuses.ensures)
 
 returns_3 : tie.Need-returns-then-stops invariant_loop decreases_loop
@@ -184,7 +184,7 @@ returns_3 c =
     let went = ap refuses (sym (ticked w).answer) ∙ sym c.refuses.ensures ∙ c.if-refuses.false in
     let stopped = ap stops (sym (ticked w).answer) ∙ sym c.stops.ensures ∙ c.if-stops.true in
     ends_stopped (b h) (done h) (s₀ h) (p h) (m₀ h) (s h) (m h) (o h) (begins h) (stands h) (read h) (snapshot_bytes h)
-    (program_bytes h) (data_bytes h) (vector h) (ticked w).snapshot-1 (ticked w).bytes (near w) c.told-then-stops.result
+    (program_bytes h) (data_bytes h) (vector h) (ticked w).snapshot (ticked w).bytes (near w) c.told-then-stops.result
     (ap (λ a. a.answer) c.told-then-stops.ensures ∙ numbered w) (first_short h (near w)) went stopped (ap (λ a. a.ticks) c.told-then-stops.ensures)
 
 returns_4 : tie.Need-returns-then-next-budget invariant_loop decreases_loop
@@ -194,7 +194,7 @@ returns_4 c =
     let went = ap refuses (sym (ticked w).answer) ∙ sym c.refuses.ensures ∙ c.if-refuses.false in
     let on = ap stops (sym (ticked w).answer) ∙ sym c.stops.ensures ∙ c.if-stops.false in
     ends_last (b h) (done h) (s₀ h) (p h) (m₀ h) (s h) (m h) (o h) (begins h) (stands h) (read h) (snapshot_bytes h)
-    (program_bytes h) (data_bytes h) (vector h) (ticked w).snapshot-1 (ticked w).bytes (near w) c.told-then-next-budget.result
+    (program_bytes h) (data_bytes h) (vector h) (ticked w).snapshot (ticked w).bytes (near w) c.told-then-next-budget.result
     (ap (λ a. a.answer) c.told-then-next-budget.ensures ∙ numbered w) (first_short h (near w)) went on c.if-next-budget.true (ap (λ a. a.ticks) c.told-then-next-budget.ensures)
 
 loop_again : tie.Need-loop-program-preserved invariant_loop decreases_loop
@@ -204,9 +204,9 @@ loop_again c =
     let went = ap refuses (sym (ticked w).answer) ∙ sym c.refuses.ensures ∙ c.if-refuses.false in
     let on = ap stops (sym (ticked w).answer) ∙ sym c.stops.ensures ∙ c.if-stops.false in
     let more = c.if-next-budget.false in
-    let next = next_read (s h) (p h) (m h) (o h) (read h) (snapshot_bytes h) (program_bytes h) (data_bytes h) (vector h) (ticked w).snapshot-1 in
+    let next = next_read (s h) (p h) (m h) (o h) (read h) (snapshot_bytes h) (program_bytes h) (data_bytes h) (vector h) (ticked w).snapshot in
     let rest = goes_on (b h) (done h) (s₀ h) (p h) (m₀ h) (s h) (m h) (o h) (begins h) (stands h) (read h) (snapshot_bytes h)
-    (program_bytes h) (data_bytes h) (vector h) (ticked w).snapshot-1 (ticked w).bytes (near w) went on in
+    (program_bytes h) (data_bytes h) (vector h) (ticked w).snapshot (ticked w).bytes (near w) went on in
     (omega (arith, near w, more), (same_snapshot_2 w, (same_data_2 w, (ap (λ r. r.refusal) next, (rest, λ z. absurd (omega (arith, z)))))))
 
 pub advance_spec : {M : Type 1} → statement M
@@ -227,7 +227,7 @@ advance_spec =
     returns
     (λ c κs. search rules)
     (λ c κs. search rules)
-    (λ c. omega (arith, near c, (start (here c)).fits.budget.fits))
+    (λ c. omega (arith, near c, (start (here c)).ranges.budget.fits))
     (λ c κs. search rules)
     (λ c κs. search rules)
     (λ c. same_snapshot_2 c.before.before.before)
@@ -242,5 +242,5 @@ advance_spec =
     (λ c. same_snapshot_2 c.before.before.before.before.before.before)
     (λ c. same_data_2 c.before.before.before.before.before.before)
     returns_4
-    (λ c. let w = c in omega (arith, near w, onward (here w)))
+    (λ c. let w = c.before.before.before.before.before in omega (arith, near w, onward (here w)))
     loop_again)

@@ -8,8 +8,8 @@ use Rattle.run.proofs.over.run_in.Statement.{statement}
 use Rattle.run.proofs.over.run_in.Tie as tie
 
 -- where the checks are passed
-passed : (c : tie.Else-refusal-ne0) → (read_of c.before.before.before.before.before.before.args.snapshot.now).refusal ≡ 0
-passed c = sym c.before.refused-refusal.ensures ∙ c.if-refusal-ne0.false
+passed : (c : tie.Else-refusal-ne0) → (read_of c.args.snapshot.now).refusal ≡ 0
+passed c = sym c.refused-refusal.ensures ∙ c.if-refusal-ne0.false
 
 returns : tie.Need-returns-then-refusal-ne0
 returns c =

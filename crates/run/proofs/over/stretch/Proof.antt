@@ -16,45 +16,36 @@ came rs s e h = h ∙ taken s e
 
 slice_aggregate_go : tie.Need-slice_bounds-go-end-2
 slice_aggregate_go c =
-    let start = c.before.before.before.before.before.before.before.before.before.before in
-    let s = start.args.snapshot.now in
-    sym (taken s (long s start.requires.0))
+    let s = c.args.snapshot.now in
+    sym (taken s (long s c.requires.0))
 
 leave_requires : tie.Need-leave-requires
 leave_requires c κs =
-    let back = c.before.before.before.before.before in
-    let went = back.before in
-    let start = went.before.before.before.before.before.before.before.before.before.before.before.before in
-    let a = start.args in
+    let a = c.args in
     let s = a.snapshot.now in
-    let e = long s start.requires.0 in
-    let g = went.go-gone.result in
-    let rs = went.go-gone.new.regs in
-    let n = came rs s e went.go-gone.auto.regs in
+    let e = long s c.requires.0 in
+    let g = c.go-gone.result in
+    let rs = c.go-gone.new.regs in
+    let n = came rs s e c.go-gone.auto.regs in
     let small : c.flags-rest.result ≤ 28 = omega (arith, c.flags-rest.ensures, one_le g.inhibit, one_le g.in_service, one_le (eqb (get_or s 37 0 / 4 % 2) 1)) in
-    let near = went.go-gone.ensures.bounded (omega (arith, brief s start.requires.0, start.requires.1)) in
-    ((long_kept rs s n e, went.word_at-sp.ensures ∙ sp_kept rs s n e), (small, near))
+    let near = c.go-gone.ensures.bounded (omega (arith, brief s c.requires.0, c.requires.1)) in
+    ((long_kept rs s n e, c.word_at-sp.ensures ∙ sp_kept rs s n e), (small, near))
 
 returns : tie.Need-returns
 returns c =
-    let left = c.before.before in
-    let flagged = left.before.before in
-    let back = flagged.before.before.before.before in
-    let went = back.before in
-    let start = went.before.before.before.before.before.before.before.before.before.before.before.before in
-    let a = start.args in
+    let a = c.args in
     let s = a.snapshot.now in
-    let h = start.requires.0 in
-    let g = went.go-gone.result in
-    let rs = went.go-gone.new.regs in
-    let m' = went.go-gone.new.«data» in
-    let n = came rs s (long s h) went.go-gone.auto.regs in
-    let f : Bytes rs = record { byte_lt = front_bytes rs (drop 32 s) (λ i. omega (arith, flagged.slice_known-5-1.given i)) } in
-    let pc = went.word_at-pc.ensures in
-    let sp = went.word_at-sp.ensures in
-    let w : went_in s a.program.now a.«data».now a.on a.at a.budget g rs m' = rw (← pc, ← sp) went.go-gone.ensures in
-    stretched s a.program.now a.«data».now a.on a.at a.budget g rs m' h start.requires.1 w n f (omega (arith, went.go-gone.type-inv)) (omega (arith, went.go-gone.type-inv)) (omega (arith, went.go-gone.type-inv))
-    left.leave.ensures.1 (rw (← flagged.flags-rest.ensures) left.leave.ensures.0)
+    let h = c.requires.0 in
+    let g = c.go-gone.result in
+    let rs = c.go-gone.new.regs in
+    let m' = c.go-gone.new.«data» in
+    let n = came rs s (long s h) c.go-gone.auto.regs in
+    let f : Bytes rs = record { byte_lt = front_bytes rs (drop 32 s) (λ i. omega (arith, c.slice_known-5-1.given i)) } in
+    let pc = c.word_at-pc.ensures in
+    let sp = c.word_at-sp.ensures in
+    let w : went_in s a.program.now a.«data».now a.on a.at a.budget g rs m' = rw (← pc, ← sp) c.go-gone.ensures in
+    stretched s a.program.now a.«data».now a.on a.at a.budget g rs m' h c.requires.1 w n f (omega (arith, c.go-gone.type_inv)) (omega (arith, c.go-gone.type_inv)) (omega (arith, c.go-gone.type_inv))
+    c.leave.ensures.1 (rw (← c.flags-rest.ensures) c.leave.ensures.0)
 
 pub stretch_spec : {M : Type 1} → statement M
 stretch_spec =
