@@ -11,7 +11,9 @@ const TEXT: usize = 1048576;
 fn say_refused(rt: &impl Print, refusal: u8, line: usize) -> io::Result<()> {
     println!(rt; "refused-{refusal} at line {line}")?;
     if refusal == 53 {
-        println!(rt; "avr-objcopy --set-start 0 leaves out type 03, srec_cat -address-length=2 type 04")?;
+        println!(rt;
+            "avr-objcopy --set-start 0 leaves out type 03, srec_cat -address-length=2 type 04"
+        )?;
     }
     Ok(())
 }
