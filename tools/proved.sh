@@ -94,7 +94,7 @@ show_proofs() { # what rt says, on standard input: of the crates in $work/crates
         case $line in
         'rt: chose --jobs '*' for '*) crate=${line##* } began=$(date +%s) ;;
         'logic=proved '*) echo "$name: $(sed -n "/^$crate\$/=" "$work/crates") of $((crates)): $crate proved ($(($(date +%s) - began)) s)" ;;
-        'rt: nothing has changed since '* | 'rt: running out/'* | 'rt: '*': begins with what a check kept in '* | 'rt: waiting for another rt '* | 'fn '*': proved' | 'struct '*': proved' | 'enum '*': proved') ;;
+        'rt: nothing has changed since '* | 'rt: running out/'* | 'rt: '*': begins with what a check kept in '* | 'rt: waiting for another rt '* | *': proved') ;;
         'logic '* | 'only='* | 'statements '* | 'library '*': modules loaded='* | 'crate '*': modules loaded='* | 'axioms '* | 'linked '* | *': note: '* | 'note: no function with a body '*) ;;
         *) printf '%s\n' "$line" ;;
         esac
