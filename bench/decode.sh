@@ -12,7 +12,7 @@ find_words() { # the images, and one of every word
 
 find_program() { # NAME: as rt runs it: off x86-64 with the loader and the library of the kit
     needs rt
-    (cd "crates/$1" && rt run </dev/null >&2) || not_run "crates/$1 is not proved"
+    (cd "crates/$1" && rt run </dev/null >/dev/null) || not_run "crates/$1 is not proved"
     program=crates/$1/out/$1
     if [ "$(uname -m)" != x86_64 ]; then
         kit=$(dirname "$(dirname "$(readlink -f "$(command -v rt)")")")/toolchain/lib
