@@ -12,11 +12,11 @@ find_words() { # the images, and one of every word
 
 find_program() { # NAME: as rt runs it: off x86-64 with the loader and the library of the kit
     needs rt
-    rt check "$1" >&2 || not_run "crates/$1 is not proved"
-    program=target/bin/$1
+    (cd "crates/$1" && rt run </dev/null >/dev/null) || not_run "crates/$1 is not proved"
+    program=crates/$1/out/$1
     if [ "$(uname -m)" != x86_64 ]; then
-        kit=${RATTLE_HOME:-$(dirname "$(dirname "$(readlink -f "$(command -v rt)")")")}/on/$(uname -m)/toolchain/lib
-        program="$kit/ld-linux-x86-64.so.2 --library-path $kit target/bin/$1"
+        kit=$(dirname "$(dirname "$(readlink -f "$(command -v rt)")")")/toolchain/lib
+        program="$kit/ld-linux-x86-64.so.2 --library-path $kit $program"
     fi
 }
 

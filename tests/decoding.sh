@@ -11,7 +11,7 @@ decoded_alike() { # FILE COUNT
     done
 }
 
-quietly 'rt check decoding' rt check decoding
+quietly 'rt run decoding' build decoding
 LC_ALL=C awk 'BEGIN { for (w = 0; w < 65536; w++) printf "%c%c", w % 256, w / 256 }' >"$work/all_words"
 decoded_alike "$work/all_words" 192
 note $? 'crates/decoding on every word: 32 are LDS, 32 STS, 64 JMP and 64 CALL'

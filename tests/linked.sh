@@ -1,5 +1,5 @@
 # Where the tools are there: the programs of host/c, random programs by runs, by schedules and by ticks (tests/runs.c, tests/schedules.c), the tests and examples of host/rust, other tools on the HEX files that the port writes, and firmware/check, over the
-# archive that `rt staticlib host` writes.
+# archive that tools/archive writes.
 # The archive is for x86-64. On an Arm machine Debian's cross compiler, its Rust with the library for x86-64 and an emulator stand in (as root, tests/install gets them).
 # Read by tests/run.
 archive=''
@@ -19,7 +19,7 @@ can_link() { # NAME TOOLS...: whether the tools and the archive are there; it sa
 }
 
 make_archive() { # the archive of this code
-    quietly 'rt staticlib host' rt staticlib host
+    quietly tools/archive tools/archive
     [ "$status" = 0 ] && archive=made
 }
 
@@ -61,7 +61,7 @@ says_cs_words() { # COMMAND...: prints every number with its words as target/num
 
 says_what_to_run() { # host/rust, with no archive, names the command that writes it
     said=$(AVR_CORE_LIB=$work/nowhere "$cargo" build --quiet --offline --release $target --manifest-path host/rust/Cargo.toml --target-dir target/cargo 2>&1)
-    [ $? != 0 ] && echo "$said" | grep -q 'run `rt staticlib host`'
+    [ $? != 0 ] && echo "$said" | grep -q 'run tools/archive'
 }
 
 make_programs() { # of these lengths, from the bytes of the archive; the other tools take no file without data

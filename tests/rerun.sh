@@ -167,7 +167,7 @@ takes_all_data() { # 65,536 bytes and none
 }
 
 breaks_off() { # Ctrl-C after three seconds of a run that would last for longer; rt is not asked, which might take these seconds
-    stand_in 0 'rt: ok, 20 crates proved'
+    stand_in 0 "$unchanged"
     with_stand_in env RERUN_STEP=1000000 timeout -s INT --preserve-status 3 ./rerun "$loop" --budget 4294967295 --rule both --out "$work/cut" >"$work/printed" 2>"$work/said"
     [ $? = 130 ] && [ ! -s "$work/said" ] && grep -q '^broken off after [0-9,]*000,000 ticks, rule source$' "$work/printed" || return 1
     grep -q '^source and chip were not compared' "$work/printed" && grep -q '^budget  *4,294,967,295 ticks$' "$work/printed" && cmp -s "$work/cut.source" "$work/zeros" && [ ! -e "$work/cut.chip" ]
@@ -179,10 +179,10 @@ shows_progress() { # at a terminal, and wipes it off
 }
 
 asks_for_rerun() { # rt is asked each time, and where it is not proved nothing is run
-    stand_in 0 'rt: ok, 20 crates proved'
-    with_stand_in ./rerun $example_hex >"$work/printed" && [ "$(cat "$work/asked")" = version ] || return 1
-    stand_in 1 'rt: running NOT PROVED'
-    runs_nothing 'running NOT PROVED' with_stand_in ./rerun $example_hex && [ "$(cat "$work/asked")" = 'check rerun' ]
+    stand_in 0 "$unchanged"
+    with_stand_in ./rerun $example_hex >"$work/printed" && asked 'run rerun version' || return 1
+    stand_in 1 'rt: the library rerunning did not build, so nothing above it was checked'
+    runs_nothing 'rerunning did not build' with_stand_in ./rerun $example_hex && asked 'run rerun'
 }
 
 says_the_gate() ( # of which commit the last full gate was
@@ -223,7 +223,7 @@ keeps_the_gate() {
 hex_file FFCF >"$loop" # RJMP .-2
 lines_of_no_bytes 5 >"$work/long.hex"
 head -c 16384 /dev/zero >"$work/zeros"
-rt check rerun >/dev/null </dev/null # so that no case has to prove anything
+build rerun >/dev/null 2>&1 # so that no case has to prove anything
 try_results
 try_refused
 try_mistakes

@@ -15,7 +15,7 @@ leads() { # TICKS IMAGE PC R16
     note $? "crates/ticking: $1 ticks of firmware/$2.bin"
 }
 
-quietly 'rt check ticking' rt check ticking
+quietly 'rt run ticking' build ticking
 for ticks in 1 2 3 100 1000 2266 2267; do
     as_traced $ticks
     note $? "crates/ticking: $ticks ticks of firmware/heat_index.bin"

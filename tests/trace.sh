@@ -1,7 +1,11 @@
 # Tries ./trace: what it prints for each case of tests/trace, how it ends, and what it says where it runs nothing. Read by tests/run.
 root=$(pwd)
-kit=${RATTLE_HOME:-$(dirname "$(dirname "$(readlink -f "$(command -v rt)")")")}
 example=$root/tests/trace/example.in
+unchanged='rt: nothing has changed since the last proved build, by out/trace.stamp, so nothing is checked now' # what rt says then
+
+build() { # PROGRAM: proves and builds what has changed of it, and runs it on nothing
+    (cd "crates/$1" && rt run </dev/null)
+}
 
 prints() { # CASE COMMAND...: prints the case's output, says nothing beside it, and ends with 1 where the case is refused; where it runs nothing, it says so
     expected=${1%.in}.out ends=0
@@ -22,52 +26,64 @@ runs_nothing() { # TEXT COMMAND...: ends with 1, prints nothing and says TEXT
     [ $? = 1 ] && [ ! -s "$work/printed" ] && grep -q -e "$text" "$work/said"
 }
 
-stand_in() { # STATUS TEXT: a program rt that takes its whole input, keeps its words, says TEXT and ends with STATUS
-    mkdir -p "$work/bin"
-    printf '#!/bin/sh\ncat >/dev/null\necho "$*" >"%s"\necho "%s"\nexit %s\n' "$work/asked" "$2" "$1" >"$work/bin/rt"
+stand_in() { # STATUS TEXT: a program rt that takes its whole input, keeps its words, says TEXT, by `run` on standard error, and ends with STATUS
+    mkdir -p "$work/bin" && rm -f "$work/asked"
+    printf '#!/bin/sh\ncat >/dev/null\necho "$*" >>"%s"\n[ "$1" != run ] || exec >&2\necho "%s"\nexit %s\n' "$work/asked" "$2" "$1" >"$work/bin/rt"
     chmod +x "$work/bin/rt"
 }
 
+asked() { # WORDS: whether the stand-in was asked so, a call behind another
+    [ "$(paste -s -d ' ' "$work/asked")" = "$1" ]
+}
+
 with_stand_in() { # COMMAND...
-    env PATH="$work/bin:$PATH" RATTLE_HOME="$kit" "$@"
+    env PATH="$work/bin:$PATH" "$@"
 }
 
 asks_each_time() { # rt is asked, and does not get the image
-    stand_in 0 'rt: ok, 10 crates proved'
-    prints "$example" with_stand_in ./trace <"$example" && [ "$(cat "$work/asked")" = 'check trace' ]
+    stand_in 0 "$unchanged"
+    prints "$example" with_stand_in ./trace <"$example" && asked 'run trace'
 }
 
 shows_a_proof() {
-    stand_in 0 'rt: tracing proved (26 s)'
-    with_stand_in ./trace "$example" 2>"$work/said" | cmp -s - "${example%.in}.out" && grep -q 'tracing proved' "$work/said"
+    stand_in 0 'rt: chose --jobs 2 for tracing
+logic=proved functions=8'
+    with_stand_in ./trace "$example" 2>"$work/said" | cmp -s - "${example%.in}.out" && grep -q 'tracing proved ([0-9]* s)' "$work/said"
 }
 
 numbers_proofs() { # each crate that is proved now with its number among all that are needed, and none of the prover's own lines
-    stand_in 0 'rt: basis proved (unchanged since it was last proved)
+    stand_in 0 'rt: alu: begins with what a check kept in /tmp/crates/alu
+rt: chose --jobs 2 for alu
 struct alu::Sum: proved
 fn alu::plus: proved
+logic antt-project.json: libraries=16 files=2756
+statements core: modules loaded=215 checked=0
 library basis: modules loaded=10 checked=0
+crate alu: modules loaded=0 checked=33
 logic=proved functions=8
-rt: alu proved (5 s)
-rt: ok, 2 crates proved'
-    with_stand_in ./trace "$example" 2>"$work/said" | cmp -s - "${example%.in}.out" && [ "$(cat "$work/said")" = "trace: 2 of $(crates_of trace): alu proved (5 s)" ]
+rt: running out/trace; to give it other input, run that file yourself'
+    with_stand_in ./trace "$example" 2>"$work/said" | cmp -s - "${example%.in}.out" && grep -q -x "trace: $(place_of alu trace) of $(crates_of trace): alu proved ([0-9]* s)" "$work/said" && [ "$(wc -l <"$work/said")" = 1 ]
 }
 
 crates_of() ( # PROGRAM...: how many crates they are made of, by tools/proved.sh
     here=$root && . tools/proved.sh && echo $(($(needed "$@" | wc -l)))
 )
 
-counts_crates() ( # each once, with all that it is made of; what the kit has is not counted
+place_of() ( # CRATE PROGRAM: the number that it has among them
+    here=$root && . tools/proved.sh && needed "$2" | sed -n "/^$1\$/="
+)
+
+counts_crates() ( # each once, behind all that it is made of; what the kit has is not counted
     here=$work/few_crates && mkdir -p "$here" && . tools/proved.sh
-    printf '# a list\ntop: io left right # both\nleft: base\nright: base left\nbase:\nother: base\n' >"$here/crates.txt"
-    [ "$(needed top | sort | tr '\n' ' ')" = 'base left right top ' ] && [ "$(needed left other | sort | tr '\n' ' ')" = 'base left other ' ]
+    printf '# a list\ntop: csv left right # both\nleft: base\nright: base left\nbase:\nother staticlib: base\n' >"$here/crates.txt"
+    [ "$(needed top | tr '\n' ' ')" = 'base left right top ' ] && [ "$(needed left other | tr '\n' ' ')" = 'base left other ' ]
 )
 
 announces_the_first() ( # how many crates, and how long that takes, before rt is asked; no word of it once the program is there
-    here=$work/few_crates name=first PATH=$work/bin:$PATH RATTLE_HOME=$kit && . tools/proved.sh
-    mkdir -p "$here/tools" && : >"$here/tools/proved.sh" && stand_in 0 'rt: ok, 4 crates proved'
+    here=$work/few_crates name=first PATH=$work/bin:$PATH && . tools/proved.sh
+    mkdir -p "$here/crates/top/out" && stand_in 0 "$unchanged"
     bring_up top 2>"$work/said" && [ "$(cat "$work/said")" = 'first: this first time 4 crates are proved and the program is built, which takes about 2 minutes' ] || exit 1
-    mkdir -p "$here/target/bin" && : >"$here/target/bin/top" && chmod +x "$here/target/bin/top"
+    : >"$here/crates/top/out/top" && chmod +x "$here/crates/top/out/top"
     bring_up top 2>"$work/said" && [ ! -s "$work/said" ]
 )
 
@@ -77,7 +93,7 @@ without_the_kit() { # COMMAND...: with no rt on PATH
     env PATH="$work/no_kit" "$@"
 }
 
-rt check trace >/dev/null </dev/null # so that no case has to prove anything
+build trace >/dev/null 2>&1 # so that no case has to prove anything
 for case in tests/trace/*.in; do
     prints "$case" ./trace <"$case"
     note $? "./trace < $case"
@@ -94,8 +110,8 @@ counts_crates
 note $? 'tools/proved.sh counts the crates of a program'
 announces_the_first
 note $? 'tools/proved.sh announces the first build'
-stand_in 1 'rt: tracing NOT PROVED'
-runs_nothing 'tracing NOT PROVED' with_stand_in ./trace "$example"
+stand_in 1 'rt: the library tracing did not build, so nothing above it was checked'
+runs_nothing 'the library tracing did not build' with_stand_in ./trace "$example"
 note $? './trace where something is not proved'
 runs_nothing 'no rt on PATH' without_the_kit "$root/trace" "$example"
 note $? './trace without the kit'

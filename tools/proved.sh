@@ -1,7 +1,6 @@
 # What the commands that run proved programs share. A command reads this file with `here` as the repository's folder and `name` as its own name.
 image_bytes=49152 # the longest program that trace takes, and what unhex writes
 text_most=1048576 # the longest text that unhex and rerun take
-kit_loader=''     # as find_loader sets it
 crate_seconds=20  # what a crate takes to prove, on two cores: 22 took 7 min 47 s
 
 stop() { # TEXT: says why nothing is run
@@ -37,7 +36,7 @@ open() { # FILE: makes it standard input
     exec <"$1"
 }
 
-prove() { # PROGRAM...: brings them up to date in target/bin, or stops; makes the folder $work
+prove() { # PROGRAM...: brings them up to date, or stops; makes the folder $work
     find_kit
     make_work
     bring_up "$@"
@@ -54,61 +53,56 @@ make_work() { # the folder $work, which goes when the command ends
 }
 
 bring_up() { # PROGRAM...: proves and builds what has changed, or stops; the first time takes long, and is announced
-    crates=$(needed "$@" | wc -l)
+    needed "$@" >"$work/crates"
+    crates=$(wc -l <"$work/crates")
     for program in "$@"; do
-        [ -x "$here/target/bin/$program" ] || { echo "$name: this first time $((crates)) crates are proved and the program is built, which takes about $(((crates * crate_seconds + 59) / 60)) minutes" >&2 && break; }
+        [ -x "$(built "$program")" ] || { echo "$name: this first time $((crates)) crates are proved and the program is built, which takes about $(((crates * crate_seconds + 59) / 60)) minutes" >&2 && break; }
     done
-    check "$@" || stop "not proved, so nothing is run"
-    find_loader
+    for program in "$@"; do
+        check "$program" || stop "not proved, so nothing is run"
+    done
 }
 
-needed() { # PROGRAM...: the crates of crates.txt that they are made of, themselves too, a line each
+needed() { # PROGRAM...: the crates of crates.txt that they are made of, themselves too, a line each, in the order in which rt proves them
     awk -v programs="$*" '
         { sub(/#.*/, "") }
-        /:/ { crate = $0; sub(/:.*/, "", crate); sub(/^[^:]*:/, ""); uses[crate] = $0 }
-        END {
-            count = split(programs, crates, " ")
-            for (i = 1; i <= count; i++) {
-                if (!(crates[i] in uses) || crates[i] in seen) continue
-                seen[crates[i]] = 1
-                print crates[i]
-                more = split(uses[crates[i]], below, " ")
-                for (j = 1; j <= more; j++) crates[++count] = below[j]
-            }
-        }' "$here/crates.txt"
+        /:/ { crate = $0; sub(/[ :].*/, "", crate); sub(/^[^:]*:/, ""); uses[crate] = $0 }
+        function visit(crate,    below, count, i) {
+            if (!(crate in uses) || crate in seen) return
+            seen[crate] = 1
+            count = split(uses[crate], below, " ")
+            for (i = 1; i <= count; i++) visit(below[i])
+            print crate
+        }
+        END { count = split(programs, crates, " "); for (i = 1; i <= count; i++) visit(crates[i]) }' "$here/crates.txt"
 }
 
-check() { # PROGRAM...: what rt says is shown where it proves something or fails
-    lock=$(command -v flock) # two checks at once would spoil each other's marks of what is proved
+built() { # PROGRAM: the file that rt builds
+    echo "$here/crates/$1/out/$1"
+}
+
+check() { # PROGRAM: what rt says is shown where it proves something or fails; what is up to date it runs, here on nothing
     {
-        cd "$here" && ${lock:+"$lock" tools/proved.sh} rt check "$@" </dev/null 2>&1
+        (cd "$here/crates/$1" && rt run "$1" </dev/null 2>&1 >/dev/null)
         echo $? >"$work/status"
     } | show_proofs >&2
     [ "$(cat "$work/status")" = 0 ]
 }
 
-show_proofs() { # what rt says, on standard input: of $crates crates the number of each that is proved now, and all that is no success
-    proved=0
+show_proofs() { # what rt says, on standard input: of the crates in $work/crates the number of each that is proved now, and all that is no success
     while IFS= read -r line; do
         case $line in
-        'rt: '*' proved (unchanged since it was last proved)') proved=$((proved + 1)) ;;
-        'rt: '*' proved ('*) proved=$((proved + 1)) && echo "$name: $proved of $((crates)): ${line#rt: }" ;;
-        'rt: ok, '* | 'rt: '*', and wrote what its file '* | 'fn '*': proved' | 'struct '*': proved' | 'enum '*': proved') ;;
-        'logic '* | 'logic=proved '* | 'library '*': modules loaded='* | 'crate '*': modules loaded='* | 'axioms '* | 'linked '* | *': note: '* | 'note: no function with a body '*) ;;
+        'rt: chose --jobs '*' for '*) crate=${line##* } began=$(date +%s) ;;
+        'logic=proved '*) echo "$name: $(sed -n "/^$crate\$/=" "$work/crates") of $((crates)): $crate proved ($(($(date +%s) - began)) s)" ;;
+        'rt: nothing has changed since '* | 'rt: running out/'* | 'rt: '*': begins with what a check kept in '* | 'rt: waiting for another rt '* | *': proved') ;;
+        'logic '* | 'only='* | 'statements '* | 'library '*': modules loaded='* | 'crate '*': modules loaded='* | 'axioms '* | 'linked '* | *': note: '* | 'note: no function with a body '*) ;;
         *) printf '%s\n' "$line" ;;
         esac
     done
 }
 
-find_loader() { # how rt runs programs: under the kit's loader and C library, and off x86-64 under the kit's emulator
-    kit_tools=${RATTLE_HOME:-$(dirname "$(dirname "$(readlink -f "$(command -v rt)")")")}/on/$(uname -m)/toolchain
-    kit_loader=$kit_tools/lib/ld-linux-x86-64.so.2 kit_emulator=$kit_tools/bin/qemu-x86_64
-    [ -x "$kit_emulator" ] || kit_emulator=''
-}
-
 run() { # PROGRAM: as rt runs it
-    [ -n "$kit_loader" ] || find_loader
-    ${kit_emulator:+"$kit_emulator"} "$kit_loader" --library-path "$kit_tools/lib" "$here/target/bin/$1"
+    "$(built "$1")"
 }
 
 read_hex() { # FILE: the HEX file on standard input, which messages call FILE, into $work/image; stops where it is refused

@@ -7,7 +7,7 @@ use std::process::exit;
 fn fault(archive: &Path) -> Option<String> {
     let machine = env::var("CARGO_CFG_TARGET_ARCH").expect("cargo names the machine");
     if !archive.is_file() {
-        return Some(format!("no {}: run `rt staticlib host` in the project's root, or set AVR_CORE_LIB to its folder", archive.display()));
+        return Some(format!("no {}: run tools/archive in the project's root, or set AVR_CORE_LIB to its folder", archive.display()));
     }
     (machine != "x86_64").then(|| format!("{} is for x86-64, and this build is for {machine}", archive.display()))
 }

@@ -14,7 +14,7 @@ const IMAGE: usize = 49_152;
 const ROUNDS: usize = 301;
 
 const FOLDER: &str = "target/bench";
-const UNHEX: &str = "target/bin/unhex";
+const UNHEX: &str = "crates/unhex/out/unhex";
 
 /// Something that is done once a round, and its times in milliseconds.
 struct Work {

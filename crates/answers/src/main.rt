@@ -1,7 +1,7 @@
 // Answers cases from standard input, one after another: a snapshot, then offer, program length and data length, then program and data.
 #![tactic(auto)]
 
-use libc::{STDIN_FILENO, STDOUT_FILENO};
+use std::io::{self, BufReader, BufWriter, Read, Write};
 
 // The 32-bit number at `at`, high byte first.
 fn number(bytes: &[u8], at: u8) -> u32 {
@@ -12,43 +12,65 @@ fn number(bytes: &[u8], at: u8) -> u32 {
     high * 65536 + low
 }
 
-fn write(bytes: &[u8]) -> bool {
-    io::write_all(STDOUT_FILENO, bytes)
+// Fills `bytes`, as far as the input goes; how many bytes came. What was written goes out before a wait for input.
+fn fill<R: Read + Drop, W: Write + Drop>(
+    input: &mut BufReader<R>,
+    output: &mut BufWriter<W>,
+    bytes: &mut [u8],
+) -> io::Result<usize> {
+    let mut done = 0;
+    while done < bytes.len() {
+        if input.buffer().is_empty() {
+            output.flush()?;
+        }
+        let more = input.read(&mut bytes[done..])?;
+        if more == 0 {
+            return Ok(done);
+        }
+        done += more;
+    }
+    Ok(done)
 }
 
 // One case; whether another may follow. A length above the limits writes 255.
-fn answer(head: &mut [u8], program: &mut [u8], data: &mut [u8]) -> bool {
-    if io::read_full(STDIN_FILENO, head) < 50 {
-        return false;
+fn answer<R: Read + Drop, W: Write + Drop>(
+    input: &mut BufReader<R>,
+    output: &mut BufWriter<W>,
+    program: &mut [u8],
+    data: &mut [u8],
+) -> io::Result<bool> {
+    let mut head = [0u8; 50];
+    if fill(input, output, &mut head)? < 50 {
+        return Ok(false);
     }
-    let offer = number(head, 38);
-    let size = number(head, 42) as usize;
-    let room = number(head, 46) as usize;
-    if size > program.len() {
-        write(&[255u8]);
-        return false;
+    let offer = number(&head, 38);
+    let size = number(&head, 42) as usize;
+    let room = number(&head, 46) as usize;
+    if size > program.len() || room > data.len() {
+        output.write_all(&[255])?;
+        return Ok(false);
     }
-    if room > data.len() {
-        write(&[255u8]);
-        return false;
+    let (program, data) = (&mut program[..size], &mut data[..room]);
+    if fill(input, output, program)? < size || fill(input, output, data)? < room {
+        return Ok(false);
     }
-    if io::read_full(STDIN_FILENO, &mut program[..size]) < size {
-        return false;
-    }
-    if io::read_full(STDIN_FILENO, &mut data[..room]) < room {
-        return false;
-    }
-    let answer = host::avr_tick(&mut head[..38], &program[..size], &mut data[..room], offer);
-    write(&[(answer % 256) as u8]) & write(&head[..38]) & write(&data[..room])
+    let answer = host::avr_tick(&mut head[..38], program, data, offer);
+    output.write_all(&[(answer % 256) as u8])?;
+    output.write_all(&head[..38])?;
+    output.write_all(data)?;
+    Ok(true)
 }
 
-fn main() {
-    let mut head = [0u8; 50];
-    let mut program = [0u8; 131072];
-    let mut data = [0u8; 66000];
+fn main(rt: HostRuntime) -> io::Result<()> {
+    let mut input = BufReader::with_capacity(rt.alloc(), 65536, rt.reader())?;
+    let mut output = BufWriter::with_capacity(rt.alloc(), 65536, io::writer(&rt))?;
+    let mut program = vec![in rt.alloc(); 0u8; 131072]?;
+    let mut data = vec![in rt.alloc(); 0u8; 66000]?;
     // counted only so that the loop is shown to end
-    let mut turns = u64::MAX;
-    while turns > 0 && answer(&mut head, &mut program, &mut data) {
-        turns -= 1;
+    for _ in 0..u64::MAX {
+        if !answer(&mut input, &mut output, &mut program, &mut data)? {
+            break;
+        }
     }
+    output.flush()
 }

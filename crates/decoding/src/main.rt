@@ -3,7 +3,7 @@
 #![tactic(auto)]
 
 use instruction::Instruction;
-use libc::{STDIN_FILENO, STDOUT_FILENO};
+use std::io::{self, Read};
 
 #[derive(Clone, Copy)]
 struct Words {
@@ -89,11 +89,11 @@ fn passes(way: u8, times: u16, image: &[u8]) -> u64 {
     count
 }
 
-fn main() {
-    let mut head = [0u8; 3];
-    let mut image = [0u8; 131072];
-    io::read_full(STDIN_FILENO, &mut head);
-    let size = io::read_full(STDIN_FILENO, &mut image);
-    let times = memory::read_word(&[head[2], head[1]], 0);
-    io::print_decimal(STDOUT_FILENO, passes(head[0], times, &image[..size]));
+fn main(rt: HostRuntime) -> io::Result<()> {
+    let mut input = Vec::new(rt.alloc());
+    rt.reader().take(3 + 131072).read_to_end(&mut input)?;
+    let way = memory::read(&input, 0);
+    let times = memory::read_word(&[memory::read(&input, 2), memory::read(&input, 1)], 0);
+    let image = input.get(3..).unwrap_or(&[]);
+    rt.print(passes(way, times, image))
 }

@@ -2,7 +2,7 @@
 #![tactic(auto)]
 
 use instruction::Instruction;
-use libc::{STDIN_FILENO, STDOUT_FILENO};
+use std::io::{self, Read};
 
 fn comes_back(first: u16, second: u16) -> bool {
     let op = Instruction::decode(first, second);
@@ -28,8 +28,8 @@ fn count(program: &[u8]) -> u32 {
     count
 }
 
-fn main() {
-    let mut program = [0u8; 131072];
-    let size = io::read_full(STDIN_FILENO, &mut program);
-    io::print_decimal(STDOUT_FILENO, count(&program[..size]) as u64);
+fn main(rt: HostRuntime) -> io::Result<()> {
+    let mut program = Vec::new(rt.alloc());
+    rt.reader().take(131072).read_to_end(&mut program)?;
+    rt.print(count(&program))
 }

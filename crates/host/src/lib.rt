@@ -1,4 +1,4 @@
-// The C interface: the tick and the run over a snapshot, and HEX files. Numbers are 01's and 02's; 65,536 is no offer.
+// The calls of the C interface, which crates/host_c exports: the tick and the run over a snapshot, and HEX files. Numbers are 01's and 02's; 65,536 is no offer.
 #![tactic(auto)]
 
 ghost use Rattle.std.specs.Prelude.{◌≡◌};
@@ -24,8 +24,7 @@ fn offer_of(offer: u32) -> Offer
 }
 
 // One tick: checks 10, 7, 8, 9, then the tick. A refused call changes no byte.
-#[unsafe(no_mangle)]
-pub extern "C" fn avr_tick(snapshot: &mut [u8], program: &[u8], data: &mut [u8], offer: u32) -> u32
+pub fn avr_tick(snapshot: &mut [u8], program: &[u8], data: &mut [u8], offer: u32) -> u32
     ensures { Tells (avr_tick_of snapshot.old program.now «data».old offer) result snapshot.new «data».new }
 {
     if offer > 65536 {
@@ -35,8 +34,7 @@ pub extern "C" fn avr_tick(snapshot: &mut [u8], program: &[u8], data: &mut [u8],
 }
 
 // What `avr_tick` would return, by the same checks. Every slice is only read.
-#[unsafe(no_mangle)]
-pub extern "C" fn avr_foretell(snapshot: &[u8], program: &[u8], data: &[u8], offer: u32) -> u32
+pub fn avr_foretell(snapshot: &[u8], program: &[u8], data: &[u8], offer: u32) -> u32
     ensures { result ≡ (avr_tick_of snapshot.now program.now «data».now offer).number }
 {
     if offer > 65536 {
@@ -50,8 +48,7 @@ pub extern "C" fn avr_foretell(snapshot: &[u8], program: &[u8], data: &[u8], off
 }
 
 // A run: the same checks, then the run, its count into `ticks`. A call refused by a check leaves `ticks` as it was.
-#[unsafe(no_mangle)]
-pub extern "C" fn avr_run(
+pub fn avr_run(
     snapshot: &mut [u8],
     program: &[u8],
     data: &mut [u8],

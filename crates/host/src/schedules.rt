@@ -1,4 +1,4 @@
-// A run by an interrupt schedule from C.
+// A run by an interrupt schedule, for C.
 ghost use Rattle.std.specs.Prelude.{◌≡◌};
 ghost use Rattle.schedule.specs.Schedule.{schedule_in, of_check};
 ghost use Rattle.host.specs.Host.{TellsTicks};
@@ -6,8 +6,7 @@ ghost use Rattle.host.specs.Schedules.{avr_run_schedule_of};
 
 // `list` has five bytes a record: a tick's number, three bytes, and a vector, two, high byte first. Checks 7, 8, 9, 30, 31, 32, then the run, its count into `ticks` and the
 // tick of each record's entry into `entered`. A call refused by a check changes nothing.
-#[unsafe(no_mangle)]
-pub extern "C" fn avr_run_schedule(
+pub fn avr_run_schedule(
     snapshot: &mut [u8],
     program: &[u8],
     data: &mut [u8],

@@ -1,21 +1,21 @@
 // Prints the listing of the program on standard input.
 #![tactic(auto)]
 
-use libc::{STDIN_FILENO, STDOUT_FILENO};
+use std::io::{self, Read};
 
 // A byte more than has word addresses.
-const PROGRAM: usize = 131072 + 1;
+const PROGRAM: u64 = 131072 + 1;
 // The longest listing: a line for each word.
 const TEXT: usize = 65536 * 49;
 
-fn print(program: &mut [u8], out: &mut [u8]) {
-    let size = io::read_full(STDIN_FILENO, program);
-    let end = listing::list(&program[..size], out);
-    io::write_all(STDOUT_FILENO, &out[..end]);
+fn print(rt: &impl Print, program: &[u8], out: &mut [u8]) -> io::Result<()> {
+    let end = listing::list(program, out);
+    rt.write_all(&out[..end])
 }
 
-fn main() {
-    let mut program = [0u8; PROGRAM];
-    let mut out = [0u8; TEXT];
-    print(&mut program, &mut out);
+fn main(rt: HostRuntime) -> io::Result<()> {
+    let mut program = Vec::new(rt.alloc());
+    rt.reader().take(PROGRAM).read_to_end(&mut program)?;
+    let mut out = vec![in rt.alloc(); 0u8; TEXT]?;
+    print(&rt, &program, &mut out)
 }

@@ -6,7 +6,7 @@ ghost use Rattle.std.specs.Prelude.{◌≡◌};
 ghost use Rattle.ticking.specs.After.{after_of};
 
 use cores::Core;
-use libc::{STDIN_FILENO, STDOUT_FILENO};
+use std::io::{self, Read};
 use tick::Offer;
 
 fn after(first: Core, program: &[u8], data: &mut [u8], offer: Offer, ticks: u32) -> Core
@@ -21,23 +21,18 @@ fn after(first: Core, program: &[u8], data: &mut [u8], offer: Offer, ticks: u32)
     core
 }
 
-fn main() {
-    let mut head = [0u8; 4];
-    let mut image = [0u8; 131072];
+fn main(rt: HostRuntime) -> io::Result<()> {
+    let mut input = Vec::new(rt.alloc());
+    rt.reader().take(4 + 131072).read_to_end(&mut input)?;
+    let high = memory::read_word(&[memory::read(&input, 1), memory::read(&input, 0)], 0) as u32;
+    let low = memory::read_word(&[memory::read(&input, 3), memory::read(&input, 2)], 0) as u32;
     let mut data = [0u8; 16384];
-    io::read_full(STDIN_FILENO, &mut head);
-    let size = io::read_full(STDIN_FILENO, &mut image);
-    let high = memory::read_word(&[head[1], head[0]], 0) as u32;
-    let low = memory::read_word(&[head[3], head[2]], 0) as u32;
     let last = after(
         Core::fresh(0),
-        &image[..size],
+        input.get(4..).unwrap_or(&[]),
         &mut data,
         Offer::Nothing,
         high * 65536 + low,
     );
-    io::print_decimal(STDOUT_FILENO, last.pc as u64);
-    io::write_all(STDOUT_FILENO, b" ");
-    io::print_decimal(STDOUT_FILENO, last.get_register(16) as u64);
-    io::write_all(STDOUT_FILENO, b"\n");
+    println!(rt; "{} {}", last.pc, last.get_register(16))
 }

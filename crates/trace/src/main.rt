@@ -1,21 +1,21 @@
 // Prints the trace of the image on standard input.
 #![tactic(auto)]
 
-use libc::{STDIN_FILENO, STDOUT_FILENO};
+use std::io::{self, Read};
 
 // Three numbers and the longest program.
-const IMAGE: usize = 6 + 49152;
+const IMAGE: u64 = 6 + 49152;
 // The longest trace: a line for each tick of the largest budget.
 const TEXT: usize = 65535 * 36;
 
-fn print(input: &mut [u8], out: &mut [u8]) {
-    let size = io::read_full(STDIN_FILENO, input);
-    let end = tracing::trace(&input[..size], out);
-    io::write_all(STDOUT_FILENO, &out[..end]);
+fn print(rt: &impl Print, input: &[u8], out: &mut [u8]) -> io::Result<()> {
+    let end = tracing::trace(input, out);
+    rt.write_all(&out[..end])
 }
 
-fn main() {
-    let mut input = [0u8; IMAGE];
-    let mut out = [0u8; TEXT];
-    print(&mut input, &mut out);
+fn main(rt: HostRuntime) -> io::Result<()> {
+    let mut input = Vec::new(rt.alloc());
+    rt.reader().take(IMAGE).read_to_end(&mut input)?;
+    let mut out = vec![in rt.alloc(); 0u8; TEXT]?;
+    print(&rt, &input, &mut out)
 }

@@ -1,44 +1,38 @@
 // Prints the image that the HEX file on standard input says. Where it is refused, a line with the number and the refused line comes out instead, and no image.
 #![tactic(auto)]
 
-use libc::{STDIN_FILENO, STDOUT_FILENO};
+use std::io::{self, Read};
 
 // The longest program that `trace` takes.
 const IMAGE: usize = 49152;
-// A byte more than the longest file. A line for each byte of an image, with CR LF, takes 737,293 bytes.
-const TEXT: usize = 1048576 + 1;
+// The longest file. A line for each byte of an image, with CR LF, takes 737,293 bytes.
+const TEXT: usize = 1048576;
 
-fn say(text: &[u8]) {
-    io::write_all(STDOUT_FILENO, text);
-}
-
-fn say_refused(refusal: u8, line: usize) {
-    say(b"refused-");
-    io::print_decimal(STDOUT_FILENO, refusal as u64);
-    say(b" at line ");
-    io::print_decimal(STDOUT_FILENO, line as u64);
-    say(b"\n");
+fn say_refused(rt: &impl Print, refusal: u8, line: usize) -> io::Result<()> {
+    println!(rt; "refused-{refusal} at line {line}")?;
     if refusal == 53 {
-        say(b"avr-objcopy --set-start 0 leaves out type 03, srec_cat -address-length=2 type 04\n");
+        println!(rt;
+            "avr-objcopy --set-start 0 leaves out type 03, srec_cat -address-length=2 type 04"
+        )?;
     }
+    Ok(())
 }
 
-fn convert(text: &mut [u8], image: &mut [u8]) {
-    let size = io::read_full(STDIN_FILENO, text);
-    if size == text.len() {
-        say(b"too long: a file has at most 1,048,576 bytes\n");
-        return;
+fn convert(rt: &impl Print, text: &[u8], image: &mut [u8]) -> io::Result<()> {
+    if text.len() > TEXT {
+        return println!(rt; "too long: a file has at most 1,048,576 bytes");
     }
-    let read = intel_hex::read(&text[..size], image);
+    let read = intel_hex::read(text, image);
     if read.refusal == 0 {
-        say(image);
+        rt.write_all(image)
     } else {
-        say_refused(read.refusal, read.line);
+        say_refused(rt, read.refusal, read.line)
     }
 }
 
-fn main() {
-    let mut text = [0u8; TEXT];
-    let mut image = [0u8; IMAGE];
-    convert(&mut text, &mut image);
+fn main(rt: HostRuntime) -> io::Result<()> {
+    let mut text = Vec::new(rt.alloc());
+    rt.reader().take(TEXT as u64 + 1).read_to_end(&mut text)?;
+    let mut image = vec![in rt.alloc(); 0u8; IMAGE]?;
+    convert(&rt, &text, &mut image)
 }

@@ -19,32 +19,13 @@ pub fn root() -> PathBuf {
     Path::new(env!("CARGO_MANIFEST_DIR")).ancestors().nth(2).expect("oracle/compare stands in the project").into()
 }
 
-/// The program in ANSWERS, or target/bin/answers, run as `rt` runs it: under the kit's loader and, off x86-64, the kit's emulator.
+/// The program in ANSWERS, or what `rt run` builds of crates/answers.
 fn command() -> Result<Command, String> {
-    let program = env::var_os("ANSWERS").map_or(root().join("target/bin/answers"), PathBuf::from);
+    let program = env::var_os("ANSWERS").map_or(root().join("crates/answers/out/answers"), PathBuf::from);
     if !program.is_file() {
-        return Err(format!("no {}: run `rt check answers` in the project's root, or set ANSWERS to the program", program.display()));
+        return Err(format!("no {}: run `rt run` in crates/answers, or set ANSWERS to the program", program.display()));
     }
-    let tools = kit()?.join("on").join(env::consts::ARCH).join("toolchain");
-    let (emulator, loader) = (tools.join("bin/qemu-x86_64"), tools.join("lib/ld-linux-x86-64.so.2"));
-    let mut command = Command::new(&loader);
-    if emulator.is_file() {
-        command = Command::new(emulator);
-        command.arg(&loader);
-    }
-    command.arg("--library-path").arg(tools.join("lib")).arg(program);
-    Ok(command)
-}
-
-/// The folder of the Rattle kit: RATTLE_HOME, or that above the one in which `rt` stands.
-fn kit() -> Result<PathBuf, String> {
-    if let Some(home) = env::var_os("RATTLE_HOME") {
-        return Ok(home.into());
-    }
-    let paths = env::var_os("PATH").unwrap_or_default();
-    let rt = env::split_paths(&paths).map(|folder| folder.join("rt")).find(|path| path.is_file()).ok_or("no rt on PATH")?;
-    let rt = rt.canonicalize().map_err(|error| error.to_string())?;
-    Ok(rt.ancestors().nth(2).ok_or("rt stands in no kit")?.to_path_buf())
+    Ok(Command::new(program))
 }
 
 impl Port {
