@@ -21,7 +21,7 @@ as_it_says() { # SAMPLE: refused with the faults that the sample names and no ot
 
 listed_otherwise() {
     unpack tests/contracts/right.sample
-    tools/contracts list "$made" | sed 's/nextOf x/lastOf x/' >"$made/docs/CONTRACTS.md"
+    tools/contracts list "$made" | sed 's/next_of x/last_of x/' >"$made/docs/CONTRACTS.md"
     ! tools/contracts "$made" >/dev/null
 }
 
