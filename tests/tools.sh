@@ -21,7 +21,7 @@ as_it_says() { # SAMPLE: refused with the faults that the sample names and no ot
 
 listed_otherwise() {
     unpack tests/contracts/right.sample
-    tools/contracts list "$made" | sed 's/nextOf x/lastOf x/' >"$made/docs/CONTRACTS.md"
+    tools/contracts list "$made" | sed 's/next_of x/last_of x/' >"$made/docs/CONTRACTS.md"
     ! tools/contracts "$made" >/dev/null
 }
 
@@ -30,10 +30,10 @@ make_crates() ( # `top` uses `code`, `stated` and `proved`, says why it has `typ
     mkdir -p "$made/crates/top/src" "$made/crates/top/proofs/next" "$made/crates/proved/proofs"
     cd "$made" || exit
     printf '# a comment: none\ntop: code stated proved typed said # typed: a local has its type\nproved: # said\n' >crates.txt
-    printf '// said::x\nuse code::Core;\nghost use Rattle·stated.specs.State.{reg};\n' >crates/top/src/lib.rt
-    printf 'use Rattle·proved.proofs.Laws.{law}\n' >crates/top/proofs/next/Proof.antt
+    printf '// said::x\nuse code::Core;\nghost use Rattle.stated.specs.State.{reg};\n' >crates/top/src/lib.rt
+    printf 'use Rattle.proved.proofs.Laws.{law}\n' >crates/top/proofs/next/Answers.antt
     printf 'pub mod Unused\npub mod End\n' >crates/top/proofs/Lib.antt
-    printf -- '-- use Rattle·said.specs.State.{reg}\npub law : (x : N) → x ≡ x\n' >crates/top/proofs/Unused.antt
+    printf -- '-- use Rattle.said.specs.State.{reg}\npub law : (x : N) → x ≡ x\n' >crates/top/proofs/Unused.antt
     printf 'pub ends : EndsAsPromised\n' >crates/top/proofs/End.antt
     printf 'pub law : (x : N) → x ≡ x\n' >crates/proved/proofs/Laws.antt
 )
@@ -58,7 +58,7 @@ make_claims() { # FIELD: a repository whose README names this field, and whose p
     printf 'pub record Demand1 : Type 0 where\n  pub tick : Ticks\n' >"$made/crates/promises/specs/Demands.antt"
     printf 'pub record Requests : Type 0 where\n  pub hex : Hexes\n' >"$made/crates/promises/specs/Requests.antt"
     printf 'pub record Claims : Type 0 where\n  pub trace : Traces\n' >"$made/crates/promises/specs/Claims.antt"
-    printf 'pub record Contracts : Type 2 where\n  pub run : run.statement\n' >"$made/crates/contracts/specs/Contracts.antt"
+    printf 'pub record Contracts : Type 2 where\n  pub run : run.statement\n' >"$made/crates/contracts/specs/EachContract.antt"
     printf 'pub ticks : Ticks\n\npub unclaimed : Unclaimed\n\npub demand1 : Demand1\n' >"$made/crates/promises/proofs/Demands.antt"
     printf '| a row | `%s`, `target/bin` |\n' "$1" >"$made/README.md"
 }

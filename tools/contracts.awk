@@ -2,56 +2,37 @@
 # The file is in the layout of `rt fmt`.
 BEGIN {
     # a clause's form, and the law of crates/promises/specs/OneOutcome.antt by which it pins what it speaks of:
-    # D is a definition over what was there before the call, r the result, x a buffer before and x′ after it
+    # D is a definition over what was there before the call, r the result, x a parameter or what it points to before the call, and x′ what it points to after it
     rules["r ≡ D"] = rules["x′ ≡ D"] = "equation"
     rules["Leaves D r x′"] = "leaves"
-    rules["Leaves D (cored x′ r x) x′"] = "leaves-lent"
+    rules["Leaves D (cored x′ r x) x′"] = "leaves_lent"
     rules["Changes D x x x x x r x′"] = "changes"
     rules["Executes D r x′"] = "executes"
     rules["Ticks D r x′"] = "ticks"
-    rules["Ticks D (inPlace r x′) x′"] = "ticks-in-place"
+    rules["Ticks D (in_place r x′) x′"] = "ticks_in_place"
     rules["Runs D r x′"] = "runs"
-    rules["TicksIn D r x′ x′"] = "ticks-in"
-    rules["RunsIn D r x′ x′"] = "runs-in"
+    rules["TicksIn D r x′ x′"] = "ticks_in"
+    rules["RunsIn D r x′ x′"] = "runs_in"
     rules["Writes D r x′"] = "writes"
     rules["Prints D x r x′"] = "prints"
     rules["Puts D D (page x′ r)"] = "puts"
     rules["Tells D r x′ x′"] = "tells"
-    rules["TellsTicks D r x′ x′ x′"] = "tells-ticks"
+    rules["TellsTicks D r x′ x′ x′"] = "tells_ticks"
     # where what the forms are written in is defined
-    homes["_≡_"] = "mathlib.Core.Path"
-    homes["Leaves"] = "Rattle·cores.specs.State"
-    homes["cored"] = "Rattle·effects.specs.Parts"
-    homes["Changes"] = "Rattle·registers.specs.Registers"
-    homes["Executes"] = "Rattle·execute.specs.Execute"
-    homes["Ticks"] = homes["inPlace"] = "Rattle·tick.specs.Tick"
-    homes["Runs"] = "Rattle·run.specs.Run"
-    homes["TicksIn"] = homes["RunsIn"] = "Rattle·run.specs.Over"
-    homes["Writes"] = "Rattle·snapshot.specs.Snapshot"
-    homes["Prints"] = homes["Puts"] = homes["page"] = "Rattle·page.specs.Page"
-    homes["Tells"] = homes["TellsTicks"] = "Rattle·host.specs.Host"
+    homes["◌≡◌"] = "Rattle.std.specs.Prelude"
+    homes["Leaves"] = "Rattle.cores.specs.State"
+    homes["cored"] = "Rattle.effects.specs.Parts"
+    homes["Changes"] = "Rattle.registers.specs.Registers"
+    homes["Executes"] = "Rattle.execute.specs.Execute"
+    homes["Ticks"] = homes["in_place"] = "Rattle.tick.specs.Tick"
+    homes["Runs"] = "Rattle.run.specs.Run"
+    homes["TicksIn"] = homes["RunsIn"] = "Rattle.run.specs.Over"
+    homes["Writes"] = "Rattle.snapshot.specs.Snapshot"
+    homes["Prints"] = homes["Puts"] = homes["page"] = "Rattle.page.specs.Page"
+    homes["Tells"] = homes["TellsTicks"] = "Rattle.host.specs.Host"
 }
 
 function fault(text) { print FILENAME ": " (inside ? name : $0) ": " text > "/dev/stderr" }
-
-# what a contract says, in short: x for a buffer's bytes before, x′ for them after
-function plain(text) {
-    gsub(/«/, "", text); gsub(/»/, "", text)
-    text = shortened(text, "\\(?now \\([A-Za-z0-9_]+ \\.entry\\)", "")
-    return shortened(text, "\\(?now \\([A-Za-z0-9_]+ \\.exit\\)", "′")
-}
-
-function shortened(text, pattern, mark,    word, rest) {
-    while (match(text, pattern)) {
-        word = substr(text, RSTART, RLENGTH)
-        rest = substr(text, RSTART + RLENGTH)
-        if (sub(/^\(now/, "now", word)) sub(/^\)/, "", rest)
-        text = substr(text, 1, RSTART - 1)
-        sub(/^now \(/, "", word); sub(/ .*/, "", word)
-        text = text word mark rest
-    }
-    return text
-}
 
 # splits a text at the blanks that stand in no parentheses
 function arguments(text, parts,    count, depth, at, c) {
@@ -66,34 +47,32 @@ function arguments(text, parts,    count, depth, at, c) {
     return count
 }
 
-function form(text, bound,    parts, count, at, found) {
+function form(text,    parts, count, at, found) {
     count = arguments(text, parts)
-    if (parts[2] == "≡") return letter(parts[1], bound) " ≡ " definition(substr(text, index(text, " ≡ ") + length(" ≡ ")), bound)
-    found = parts[1] " " definition(parts[2], bound)
+    if (parts[2] == "≡") return letter(parts[1]) " ≡ " definition(substr(text, index(text, " ≡ ") + length(" ≡ ")))
+    found = parts[1] " " definition(parts[2])
     at = 3
-    if (parts[1] == "Puts") found = found " " definition(parts[at++], bound)
-    for (; at <= count; at++) found = found " " letter(parts[at], bound)
+    if (parts[1] == "Puts") found = found " " definition(parts[at++])
+    for (; at <= count; at++) found = found " " letter(parts[at])
     return found
 }
 
-function letter(part, bound,    two, three) {
-    if (part == bound && bound != "_") return "r"
-    if (part ~ /^[A-Za-z_][A-Za-z0-9_]*$/) return "x"
-    if (part ~ /^[A-Za-z_][A-Za-z0-9_]*′$/) return "x′"
-    if (sub(/^\(inPlace /, "", part) && sub(/\)$/, "", part) && split(part, two, " ") == 2)
-        return "(inPlace " letter(two[1], bound) " " letter(two[2], bound) ")"
-    if (sub(/^\(page /, "", part) && sub(/\)$/, "", part) && split(part, two, " ") == 2)
-        return "(page " letter(two[1], bound) " " letter(two[2], bound) ")"
-    if (sub(/^\(cored /, "", part) && sub(/\)$/, "", part) && split(part, three, " ") == 3)
-        return "(cored " letter(three[1], bound) " " letter(three[2], bound) " " letter(three[3], bound) ")"
-    return "?"
+function letter(part,    parts, count, at, found) {
+    if (part == "result") return "r"
+    if (part ~ /^[A-Za-z_][A-Za-z0-9_]*(\.old|\.now)?$/) return "x"
+    if (part ~ /^[A-Za-z_][A-Za-z0-9_]*\.new$/) return "x′"
+    if (part !~ /^\((in_place|page|cored) [^()]*\)$/) return "?"
+    count = arguments(substr(part, 2, length(part) - 2), parts)
+    found = parts[1]
+    for (at = 2; at <= count; at++) found = found " " letter(parts[at])
+    return "(" found ")"
 }
 
 # D where the text is names, numbers and sums of them, and none of them is there only after the call
-function definition(text, bound) {
-    if (text ~ /′|\.exit/ || mentions(text, bound)) return "after"
+function definition(text) {
+    if (text ~ /\.(new|exit)/ || mentions(text, "result")) return "after"
     if (mentions(text, "_")) return "?"
-    gsub(/∷|·/, "", text)
+    gsub(/∷/, "", text)
     return text ~ /^[]A-Za-z0-9_ .,;=()[{}+*-]+$/ ? "D" : "?"
 }
 
@@ -103,16 +82,14 @@ function mentions(text, word) {
 }
 
 # the clause that this line is
-function clause(    text, bound, shape) {
+function clause(    text, shape) {
     text = $0
-    sub(/^ ensures ([A-Za-z0-9_-]+ )?\{ λ /, "", text)
-    bound = text; sub(/\..*/, "", bound)
-    sub(/^[A-Za-z0-9_]*\. ⌜ /, "", text); sub(/ ⌝ \}$/, "", text)
-    text = plain(text)
+    sub(/^ ensures ([A-Za-z0-9_-]+ )?\{ /, "", text); sub(/ \}$/, "", text)
+    gsub(/«/, "", text); gsub(/»/, "", text)
     contract = contract (contract == "" ? "" : "; ") text
-    shape = form(text, bound)
+    shape = form(text)
     # nothing is handed back and nothing lent to be changed: the clause is a fact of the arguments
-    if (bound == "_" && head !~ /->|&mut|&'[a-z_]+ mut/ && text !~ /′/) laws = "nothing"
+    if (!mentions(text, "result") && head !~ /->|&mut|&'[a-z_]+ mut/ && text !~ /\.(new|exit)/) laws = "nothing"
     else if (shape in rules) pin(text, shape)
     else if (sub(/ after/, " D", shape) && shape in rules) fault("its definition mentions the result or a buffer after the call")
     else fault("no law makes one outcome of `" text "`")
@@ -139,20 +116,28 @@ function lent(head,    found) {
     gsub(/&'[a-z_]+ mut /, "\\&mut ", head); sub(/&mut self/, "self: \\&mut Self", head)
     while (match(head, /[A-Za-z0-9_]+: &mut /)) {
         found = substr(head, RSTART, RLENGTH - length(": &mut "))
-        if (index(pinned, " " found "′ ") == 0) fault("says nothing of " found " afterwards")
+        if (index(pinned, " " found ".new ") == 0) fault("says nothing of " found " afterwards")
+        if (index(" " stripped(contract) " ", " " found ".now ") > 0) fault("its " found ".now is neither before the call nor after it")
         head = substr(head, 1, RSTART - 1) substr(head, RSTART + RLENGTH)
     }
     if (head ~ /&mut/) fault("lends something that this tool does not read")
 }
 
+# the text with a blank for whatever is in no name and no path
+function stripped(text) {
+    gsub(/[^A-Za-z0-9_.]/, " ", text)
+    return text
+}
+
 # what a whole `ghost use` brings: a name of the forms comes from its home, and under its own name
 function bring(text,    from, names, count, at, name) {
-    from = text; sub(/^ghost use /, "", from); sub(/\.\{.*/, "", from); sub(/·specs\./, ".", from)
-    sub(/^[^{]*\{/, "", text); sub(/\}.*/, "", text)
+    sub(/^ ?ghost use /, "", text)
+    from = text; sub(/\.\{.*/, "", from)
+    sub(/^[^{]*\{/, "", text); sub(/\}.*/, "", text); sub(/;$/, "", text)
     count = split(text, names, ",")
     for (at = 1; at <= count; at++) {
         gsub(/^ +| +$/, "", names[at])
-        name = names[at]; sub(/.* as /, "", name)
+        name = names[at]; sub(/.*( as |\.)/, "", name)
         if (name in homes && (name != names[at] || from != homes[name])) fault("its " name " is not that of " homes[name])
     }
 }
@@ -161,7 +146,7 @@ function bring(text,    from, names, count, at, name) {
 function exported(    count, at, above) {
     path = ""
     if (type != "" || below == "lib") return 1
-    if (says("lib", "pub use " below "::" name ";")) return 1
+    if (hands_on(name)) return 1
     count = split(below, modules, "/")
     above = "lib"
     for (at = 1; at <= count; at++) {
@@ -183,13 +168,30 @@ function says(file, text,    line, found) {
     return found
 }
 
-# whether the line exports a module of this crate, or, in lib.rt, one thing of a module beside it by its own name, which is no module itself
-function plain_export(    name, things) {
-    if ($0 !~ /^pub (mod [a-z0-9_]+|use [a-z0-9_]+::[A-Za-z0-9_]+);$/) return 0
-    name = $3; sub(/;$/, "", name)
-    if ($2 == "mod") return there((below == "lib" ? "" : below "/") name)
-    split(name, things, "::")
-    return below == "lib" && there(things[1]) && !there(things[1] "/" things[2])
+# whether lib.rt exports this thing of the module of the file: `pub use MODULE::NAME;`, or among others in braces
+function hands_on(thing,    file, line, text, found) {
+    file = root "lib.rt"
+    while ((getline line < file) > 0) {
+        sub(/\/\/.*/, "", line)
+        if (line ~ /^pub use /) text = ""
+        text = text line
+        if (index(text, "pub use " below "::") == 1 && line ~ /;/ && !mentions(text, "as") && mentions(substr(text, length("pub use " below "::")), thing)) found = 1
+    }
+    close(file)
+    return found
+}
+
+# whether the text exports a module of this crate, or, in lib.rt, things of a module beside it by their own names, which are no modules themselves
+function plain_export(text,    names, count, at, module) {
+    if (text !~ /^pub (mod [a-z0-9_]+|use [a-z0-9_]+::([A-Za-z0-9_]+|\{[A-Za-z0-9_, ]+\}));$/) return 0
+    sub(/;$/, "", text)
+    if (sub(/^pub mod /, "", text)) return there((below == "lib" ? "" : below "/") text)
+    sub(/^pub use /, "", text)
+    module = text; sub(/::.*/, "", module)
+    sub(/.*::/, "", text); gsub(/[{}, ]+/, " ", text)
+    count = split(text, names, " ")
+    for (at = 1; at <= count; at++) if (names[at] ~ /^(as|self)$/ || there(module "/" names[at])) return 0
+    return below == "lib" && there(module)
 }
 
 # whether a module of this path has a file
@@ -204,23 +206,30 @@ function there(module,    file, line, found) {
 FNR == 1 { root = below = FILENAME; sub(/\/src\/.*/, "/src/", root); sub(/.*\/src\//, "", below); sub(/\.rt$/, "", below) }
 { sub(/\/\/.*/, ""); gsub(/[ \t]+/, " "); sub(/ $/, "") }
 /\/\*|\*\// { fault("a comment by /* and */, which this tool does not read") }
-/^ ?pub (use|mod) / && !plain_export() { fault("an export that this tool does not read") }
+/^ ?pub (use|mod) / { export = ""; exporting = 1 }
+exporting { export = export $0 }
+exporting && /[;{]$/ && !/::\{$/ {
+    exporting = 0
+    if (!plain_export(export)) fault("an export that this tool does not read")
+}
 /^ ?(pub )?mod [a-z0-9_]+ \{/ { fault("a module in a file, which this tool does not read") }
 /^ ?pub struct [A-Za-z0-9_]+</ { fault("a struct that holds a reference, which this tool does not read") }
-/^ghost use / { brought = ""; bringing = 1 }
+/^ ?(pub )?trait |^ ?impl.* for / { fault("a trait, whose functions this tool does not read") }
+/^ ?ghost use / { brought = ""; bringing = 1 }
 bringing { brought = brought $0 }
 bringing && /;$/ { bring(brought); bringing = 0 }
 /^impl/ { type = $0; sub(/^impl(<[^>]*>)? */, "", type); sub(/[ <{].*/, "", type) }
 /^}/ { type = "" }
-/^ ?pub ((const|extern "C") )*fn / {
+/^ ?pub ((const|unsafe|extern "C") )*fn / {
     if (inside) finish()
     head = contract = laws = pinned = ""; told = broken = 0
     name = $0; sub(/.*fn /, "", name); sub(/[(<].*/, "", name)
     inside = exported()
 }
-inside && /^ ensures ([A-Za-z0-9_-]+ )?\{ λ [A-Za-z_][A-Za-z0-9_]*\. ⌜ .* ⌝ \}$/ && gsub(/⌜/, "⌜") == 1 { clause(); next }
-inside && mentions($0, "ensures") { fault("its clause is not the whole of a line, as in `ensures { λ x. ⌜ .. ⌝ }`"); broken = 1; next }
+inside && /^ ensures ([A-Za-z0-9_-]+ )?\{ .* \}$/ { clause(); next }
+inside && mentions($0, "ensures") { fault("its clause is not the whole of a line, as in `ensures { .. }`"); broken = 1; next }
 inside && mentions($0, "requires") { fault("has a requires"); next }
+inside && mentions($0, "ghost") { fault("has a ghost value, which this tool does not read"); next }
 inside { head = head $0 }
 # the body begins
 inside && /\{/ { finish() }

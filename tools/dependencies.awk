@@ -1,12 +1,11 @@
 # Reads crates.txt and then every file of Rattle and antt, and prints what nobody uses.
 
-# keeps that this crate uses a path of antt, as Rattle·tick·specs.specs.Tick.Ticks, and all that the path lies in
+# keeps that this crate uses a path of antt, as Rattle.tick.specs.Tick.Ticks, and all that the path lies in
 function use_path(path,    owner) {
-    sub(/^Rattle·/, "", path)
-    owner = path; sub(/[·.].*/, "", owner)
+    sub(/^Rattle\./, "", path)
+    owner = path; sub(/\..*/, "", owner)
     used[crate, owner] = 1
-    if (!sub(/^[^.]*\./, "", path)) return
-    do used[owner "." path] = 1; while (sub(/\.[^.]*$/, "", path))
+    do used[path] = 1; while (sub(/\.[^.]*$/, "", path))
 }
 
 function use_crates(text) {
@@ -16,9 +15,9 @@ function use_crates(text) {
     }
 }
 
-# a file of specs/ or proofs/ that others have to use: not the root, nor the proof of a function
+# a file of specs/ or proofs/ that others have to use: not the root, nor what is written of the proof of a function
 function module_of(file) {
-    if (file !~ /^crates\/[^\/]*\/(specs|proofs)\// || file ~ /\/(Lib|Proof)\.antt$/) return ""
+    if (file !~ /^crates\/[^\/]*\/(specs|proofs)\// || file ~ /\/Lib\.antt$|\/proofs\/.*\/(Proof|Invariants|Answers)\.antt$/) return ""
     sub(/^crates\//, "", file); sub(/\.antt$/, "", file); gsub(/\//, ".", file)
     return file
 }
@@ -45,7 +44,7 @@ FNR == 1 {
 FILENAME ~ /\.rt$/ { use_crates($0) }
 {
     text = $0
-    while (match(text, /Rattle·[A-Za-z0-9_·.]+/)) {
+    while (match(text, /Rattle\.[A-Za-z0-9_.]+/)) {
         path = substr(text, RSTART, RLENGTH)
         text = substr(text, RSTART + RLENGTH)
         sub(/\.$/, "", path)

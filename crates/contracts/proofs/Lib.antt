@@ -1,2 +1,2 @@
 -- `Contracts`: each is met.
-pub mod Contracts
+pub mod EachContract

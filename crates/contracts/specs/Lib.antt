@@ -1,2 +1,2 @@
 -- `Contracts`: that functions which README claims something of meet their contracts.
-pub mod Contracts
+pub mod EachContract

@@ -41,7 +41,7 @@ use Rattle.table_decode.proofs.instruction_of.Met as instruction_of
 use Rattle.table_decode.proofs.decode.Met as table_decode
 use Rattle.by_types.proofs.slice.Met as slice
 use Rattle.by_types.proofs.core.Met as core
-use Rattle.contracts.specs.Contracts.{Contracts}
+use Rattle.contracts.specs.EachContract.{Contracts}
 
 pub contracts : Contracts
 contracts =
