@@ -1,8 +1,8 @@
 -- Which words have a second one, and that what stands there does not change it. w is a word, s a second word, i an instruction.
 -- Assumes nothing.
-use mathlib.Core.Bool.{Bool, true, false, ◌&&◌, ◌||◌, beq}
+use mathlib.Core.Bool.{Bool, false, ◌&&◌, ◌||◌, beq}
 use mathlib.Core.List.{[], ◌∷◌, ◌++◌}
-use mathlib.Core.Path.{◌≡◌, refl, sym, ap, ◌∙◌}
+use mathlib.Core.Path.{◌≡◌, refl, ap, ◌∙◌}
 use Prim.Native.Nat.{ℕ, ◌+◌, ◌*◌, ◌/◌, ◌%◌, ◌-◌, ◌<◌, ◌≤◌}
 use native.Mathlib.Omega.{arith}
 use lib.Dec.{T, eqb, ltb, leb}
@@ -10,7 +10,7 @@ use borrow.Author.Tests.{ltb-true, ltb-false, ne_eqb, lt-ltb, le-ltb}
 use Rattle.basis.proofs.Choice.{same, test}
 use Rattle.basis.proofs.Every.{every, at}
 use Rattle.instruction.specs.Code.{two_words}
-use Rattle.instruction.specs.Decode.{Cases, look, under, decode_of, ranges, nop_to_add_of, nop_to_add, mulsu_to_fmulsu_of, mulsu_to_fmulsu, cpse_to_adc_of, cpse_to_adc, and_to_mov_of, and_to_mov, immediate_of, immediate, displaced_of, displaced, load_of, store_of, one_register_of, control_of, indirect_of, word_immediate_of, word_immediate, port_bit_of, port_bit, mul_of, port_of, port, relative_of, relative, branch_or_bit_of, branch_or_bit, register_bit_of, register_bit}
+use Rattle.instruction.specs.Decode.{Cases, look, under, decode_of, nop_to_add_of, nop_to_add, mulsu_to_fmulsu_of, mulsu_to_fmulsu, cpse_to_adc_of, cpse_to_adc, and_to_mov_of, and_to_mov, immediate_of, immediate, displaced_of, displaced, load_of, store_of, one_register_of, control_of, indirect_of, word_immediate_of, word_immediate, port_bit_of, port_bit, mul_of, port_of, port, relative_of, relative, branch_or_bit_of, branch_or_bit, register_bit_of, register_bit}
 use Rattle.instruction.specs.declared.Instruction.{Instruction}
 use Rattle.instruction.proofs.Cases.{Past, All, all_looked, all_ranged}
 use Rattle.forms.proofs.Alone.{form_alone}

@@ -4,10 +4,10 @@ use Rattle.std.proofs.Common.{◌-◌, ◌≤◌, rules}
 use Rattle.decoding.proofs.passes.Statement.{statement}
 use Rattle.decoding.proofs.passes.Tie as tie
 
-abbrev invariant_loop : tie.invariant_loop
+abbrev invariant_loop : tie.invariant-loop
 invariant_loop way times image table count₀ counter₀ count counter = counter ≤ times
 
-abbrev decreases_loop : tie.decreases_loop
+abbrev decreases_loop : tie.decreases-loop
 decreases_loop way times image table count₀ counter₀ count counter = times - counter
 
 pub passes_spec : {M : Type 1} → statement M

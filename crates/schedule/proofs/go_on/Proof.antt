@@ -14,42 +14,42 @@ use Rattle.schedule.proofs.go_on.Statement.{statement}
 use Rattle.schedule.proofs.go_on.Tie as tie
 
 -- behind the checks of the snapshot
-module _ (c : tie.Else1) where
+module _ (c : tie.Else-read-ne0) where
   abbrev start : tie.Start
-  start = c.before.before.before.before.before.before.before.before.before
+  start = c.before.before.before.before.before.before.before.before
 
   read : (read_of start.args.snapshot.now).refusal ≡ 0
-  read = ap (λ r. r.refusal) (sym c.before.before.read.ensures) ∙ c.if1.false
+  read = ap (λ r. r.refusal) (sym c.read-read.ensures) ∙ c.if-read-ne0.false
 
   -- those of the list remain
   remains : refusal_in start.args.snapshot.now start.args.list.now (length start.args.entered.now) ≡ refusal_of start.args.list.now (length start.args.entered.now)
   remains = rw (eq-eqb (read_of start.args.snapshot.now).refusal 0 read)
 
-returns : tie.Need-returns
+returns : tie.Need-returns-then-read-ne0
 returns c =
-    let a = c.before.before.before.before.before.before.before.before.before.before.args in
+    let a = c.args in
     let s = a.snapshot.now in
-    let is = ap (λ r. r.refusal) c.before.before.before.read.ensures in
-    let no = c.before.if1.true in
-    in_refused s a.program.now a.«data».now a.list.now a.done a.budget a.entered.now c.before.before.before.read.result.refusal
+    let is = ap (λ r. r.refusal) c.read-read.ensures in
+    let no = c.if-read-ne0.true in
+    in_refused s a.program.now a.«data».now a.list.now a.done a.budget a.entered.now c.read-read.result.refusal
     (rw (ne_eqb (read_of s).refusal 0 (λ z. no (is ∙ z))) (sym is)) no c.told.result (ap (λ x. x.answer) c.told.ensures) (ap (λ x. x.ticks) c.told.ensures)
 
-returns_2 : tie.Need-returns-2
+returns_2 : tie.Need-returns-then-refusal-ne0
 returns_2 c =
     let w = c.before.before.before in
     let a = (start w).args in
-    in_refused a.snapshot.now a.program.now a.«data».now a.list.now a.done a.budget a.entered.now c.before.before.refused.result
-    (remains w ∙ sym c.before.before.refused.ensures) c.before.if2.true c.told2.result (ap (λ x. x.answer) c.told2.ensures) (ap (λ x. x.ticks) c.told2.ensures)
+    in_refused a.snapshot.now a.program.now a.«data».now a.list.now a.done a.budget a.entered.now c.refused-refusal.result
+    (remains w ∙ sym c.refused-refusal.ensures) c.if-refusal-ne0.true c.told-then-refusal-ne0.result (ap (λ x. x.answer) c.told-then-refusal-ne0.ensures) (ap (λ x. x.ticks) c.told-then-refusal-ne0.ensures)
 
-returns_3 : tie.Need-returns-3
+returns_3 : tie.Need-returns
 returns_3 c =
     let f = c.before.before.before.before.before.before in
     let n = f.before.before in
     let w = n.before.before.before.before.before in
     let a = (start w).args in
-    let bytes : Bytes f.follow.new.0 = record { byte_lt = λ i. omega (arith, c.before.before.before.before.slice-known4.given i) } in
+    let bytes : Bytes f.follow.new.snapshot = record { byte_lt = λ i. omega (arith, c.slice_known-4-1.given i) } in
     in_passed a.snapshot.now a.program.now a.«data».now a.list.now a.done a.budget a.entered.now
-    (remains w ∙ sym n.before.before.before.before.refused.ensures ∙ n.before.before.before.if2.false) (long a.snapshot.now (read w)) f.follow.result n.no_less.result n.no_less.ensures bytes f.follow.ensures
+    (remains w ∙ sym n.refused-refusal.ensures ∙ n.if-refusal-ne0.false) (long a.snapshot.now (read w)) f.follow.result n.no_less.result n.no_less.ensures bytes f.follow.ensures
 
 pub go_on_spec : {M : Type 1} → statement M
 go_on_spec =
@@ -67,7 +67,7 @@ go_on_spec =
     (λ c κs.
     let n = c.before in
     let w = n.before.before.before.before.before in
-    (read w, (sym n.before.before.before.before.refused.ensures ∙ n.before.before.before.if2.false, omega (arith, n.no_less.ensures))))
+    (read w, (sym n.refused-refusal.ensures ∙ n.if-refusal-ne0.false, omega (arith, n.no_less.ensures))))
     (λ c. search rules)
     (λ c. search rules)
     (λ c. search rules)

@@ -31,44 +31,44 @@ sound c h =
     }
 
 -- behind the checks
-module _ (c : tie.Else1) where
+module _ (c : tie.Else-refusal-ne0) where
   abbrev start : tie.Start
   start = c.before.before.before.before.before.before
 
   passed : refusal_of start.args.list.now (length start.args.entered.now) ≡ 0
-  passed = sym c.before.refused.ensures ∙ c.if1.false
+  passed = sym c.refused-refusal.ensures ∙ c.if-refusal-ne0.false
 
 -- behind the writing of the core
 module _ (c : tie.After-write) where
-  abbrev else1 : tie.Else1
+  abbrev else1 : tie.Else-refusal-ne0
   else1 = c.before.before.before.before
 
-  written : read_of c.write.new.1.0 ≡ record { refusal = 0; core = (start else1).args.core }
+  written : read_of c.write.new.out ≡ record { refusal = 0; core = (start else1).args.core }
   written =
       ap read_of c.write.ensures.bytes
-      ∙ reading_undoes_writing (start else1).args.core (replicate 38 0) (sound (start else1) c.before.before.if2.false) refl
+      ∙ reading_undoes_writing (start else1).args.core (replicate 38 0) (sound (start else1) c.if-core-gt4.false) refl
 
-returns : tie.Need-returns
+returns : tie.Need-returns-then-refusal-ne0
 returns c =
-    let a = c.before.before.before.before.before.before.before.args in
-    of_refused a.budget a.core a.program.now a.«data».now a.list.now a.entered.now c.before.before.refused.result
-    (sym c.before.before.refused.ensures) c.before.if1.true c.ended.ensures
+    let a = c.args in
+    of_refused a.budget a.core a.program.now a.«data».now a.list.now a.entered.now c.refused-refusal.result
+    (sym c.refused-refusal.ensures) c.if-refusal-ne0.true c.ended.ensures
 
-returns_2 : tie.Need-returns-2
+returns_2 : tie.Need-returns-then-core-gt4
 returns_2 c =
     let w = c.before.before.before.before.before.before.before.before in
     let a = (start w).args in
-    of_busy a.budget a.core a.program.now a.«data».now a.list.now a.entered.now (passed w) c.before.before.before.before.before.before.if2.true
-    (c.ended2.ensures ∙ ap (λ (n : ℕ). record { answer = n; ticks = 0; core = a.core }) c.before.at_once.ensures) c.before.before.before.before.clear.ensures
+    of_busy a.budget a.core a.program.now a.«data».now a.list.now a.entered.now (passed w) c.if-core-gt4.true
+    (c.ended-then-core-gt4.ensures ∙ ap (λ (n : ℕ). record { answer = n; ticks = 0; core = a.core }) c.at_once.ensures) c.clear.ensures
 
-returns_3 : tie.Need-returns-3
+returns_3 : tie.Need-returns
 returns_3 c =
-    let f = c.before.before.before.before.before.before.before.before in
+    let f = c.before.before.before.before.before.before.before.before.before in
     let v = f.before.before.before.before.before in
     let w = else1 v in
     let a = (start w).args in
-    of_followed a.budget a.core a.program.now a.«data».now a.list.now a.entered.now (passed w) v.write.new.1.0 (written v)
-    f.follow.result c.before.read.result f.follow.ensures c.before.read.ensures c.ended3.ensures
+    of_followed a.budget a.core a.program.now a.«data».now a.list.now a.entered.now (passed w) v.write.new.out (written v)
+    f.follow-over.result c.read-read.result f.follow-over.ensures c.read-read.ensures c.ended-2.ensures
 
 pub run_spec : {M : Type 1} → statement M
 run_spec =

@@ -6,7 +6,7 @@ use Rattle.schedule.proofs.run_in.Statement.{statement}
 use Rattle.schedule.proofs.run_in.Tie as tie
 
 returns : tie.Need-returns
-returns c = let e = c.before.before.before.before.before.before.go_on.ensures in rw sub-zero at e
+returns c = let e = c.go_on.ensures in rw sub-zero at e
 
 pub run_in_spec : {M : Type 1} → statement M
 run_in_spec =

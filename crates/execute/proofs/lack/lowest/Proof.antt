@@ -1,6 +1,5 @@
 -- `lowest` is `refusal`: the first of the four tests that fails.
 -- Assumes nothing.
-use borrow.Author.Tests.{not-true, not-false}
 use Rattle.execute.proofs.lack.lowest.Statement.{statement}
 use Rattle.execute.proofs.lack.lowest.Tie as tie
 

@@ -16,26 +16,26 @@ next i [] h = absurd (not-suc-le-zero h)
 next zero (x ∷ e) h = refl
 next (suc i) (x ∷ e) h = ap (λ (l : List ℕ). 0 ∷ l) (next i e (le_of_suc-le-suc h))
 
-abbrev invariant_loop : tie.invariant_loop
+abbrev invariant_loop : tie.invariant-loop-i
 invariant_loop entered₀ records i₀ entered i = (i ≤ records) × ((length entered ≡ length entered₀) × (entered ≡ replicate i 0 ++ drop i entered₀))
 
-abbrev decreases_loop : tie.decreases_loop
+abbrev decreases_loop : tie.decreases-loop-i
 decreases_loop entered₀ records i₀ entered i = records - i
 
-loop_again : tie.Need-loop-preserved invariant_loop decreases_loop
+loop_again : tie.Need-loop-i-preserved invariant_loop decreases_loop
 loop_again c =
     let l = c.before in
-    let i = l.loop.i in
-    let e = l.before.args.entered.now in
+    let i = l.loop-i.i in
+    let e = l.args.entered.now in
     let one : i + 1 ≡ suc i = omega arith in
-    let more = c.loop-test.true in
-    (omega (arith, more), (search rules, rw one (ap (λ (z : List ℕ). set z i 0) l.loop.invariant.1.1 ∙ next i e (omega (arith, more, l.before.requires)))))
+    let more = c.loop-i-test.true in
+    (omega (arith, more), (search rules, rw one (ap (λ (z : List ℕ). set z i 0) l.loop-i.invariant.1.1 ∙ next i e (omega (arith, more, l.requires)))))
 
 returns : tie.Need-returns invariant_loop decreases_loop
 returns c =
     let l = c.before in
-    let all : l.before.args.records ≡ l.loop.i = omega (arith, c.loop-test.false, l.loop.invariant.0) in
-    rw all l.loop.invariant.1.1
+    let all : l.args.records ≡ l.loop-i.i = omega (arith, c.loop-i-test.false, l.loop-i.invariant.0) in
+    rw all l.loop-i.invariant.1.1
 
 pub clear_spec : {M : Type 1} → statement M
 clear_spec =

@@ -19,7 +19,7 @@ use Rattle.schedule.proofs.follow.serve.Statement.{statement}
 use Rattle.schedule.proofs.follow.serve.Tie as tie
 
 -- behind the run with no offer
-module _ (c : tie.After-run-in) where
+module _ (c : tie.After-run_in-ran) where
   abbrev start : tie.Start
   start = c.before.before.before.before.before.before.before
 
@@ -45,27 +45,27 @@ module _ (c : tie.After-run-in) where
   m = start.args.«data».now
 
   abbrev s' : List ℕ
-  s' = c.run_in.new.0
+  s' = c.run_in-ran.new.snapshot
 
   abbrev m' : List ℕ
-  m' = c.run_in.new.1.1.0
+  m' = c.run_in-ran.new.«data»
 
   abbrev a : Over
-  a = c.run_in.result
+  a = c.run_in-ran.result
 
   snapshot_bytes : Bytes s
-  snapshot_bytes = record { byte_lt = λ i. omega (arith, c.before.before.before.before.before.before.slice-known.given i) }
+  snapshot_bytes = record { byte_lt = λ i. omega (arith, c.slice_known-1.given i) }
 
   program_bytes : Bytes p
-  program_bytes = record { byte_lt = λ i. omega (arith, c.before.before.before.before.before.shared-slice-known.given i) }
+  program_bytes = record { byte_lt = λ i. omega (arith, c.shared_slice_known-1.given i) }
 
   data_bytes : Bytes m
-  data_bytes = record { byte_lt = λ i. omega (arith, c.before.before.before.before.slice-known2.given i) }
+  data_bytes = record { byte_lt = λ i. omega (arith, c.slice_known-2-1.given i) }
 
   ensured : RunsIn (run_in s p m Nothing u) a s' m'
   ensured =
-      let many : c.before.until.result ≡ u = c.before.until.ensures in
-      let ran : RunsIn (run_in s p m Nothing c.before.until.result) a s' m' = c.run_in.ensures in
+      let many : c.until.result ≡ u = c.until.ensures in
+      let ran : RunsIn (run_in s p m Nothing c.until.result) a s' m' = c.run_in-ran.ensures in
       subst (λ (n : ℕ). RunsIn (run_in s p m Nothing n) a s' m') many ran
 
   abbrev quiet : Quiet
@@ -78,7 +78,7 @@ module _ (c : tie.After-run-in) where
         s' = s';
         m' = m';
         a = a;
-        read = start.pre.0;
+        read = start.requires.0;
         snapshot_bytes = snapshot_bytes;
         program_bytes = program_bytes;
         data_bytes = data_bytes;
@@ -89,14 +89,14 @@ module _ (c : tie.After-run-in) where
   read = ap (λ x. x.refusal) (ran_read quiet)
 
   fits : done + u ≤ b
-  fits = until_fits d.tick done b start.pre.1
+  fits = until_fits d.tick done b start.requires.1
 
   in_budget : done + a.ticks ≤ b
   in_budget = omega (arith, few quiet, fits)
 
   module _ (ds : List Record) (f : rising d.tick ds ≡ true) where
     none : (x : ℕ) → done < x → x ≤ done + u → offered x (d ∷ ds) ≡ Nothing
-    none = none_before d.tick done b d ds refl f start.pre.1
+    none = none_before d.tick done b d ds refl f start.requires.1
 
     onward : a.answer ≡ 24 → rest_from b done s p m (d ∷ ds) ≡ rest_from b (done + a.ticks) s' p m' (d ∷ ds)
     onward = goes_on quiet b done (d ∷ ds) fits none
@@ -107,7 +107,7 @@ module _ (c : tie.After-run-in) where
         let no_entry : eqb x.answer 17 ≡ false = rw e (apart quiet) in
         ends_there quiet b done (d ∷ ds) fits none x z e t ∙ rw no_entry
 
-returns : tie.Need-returns
+returns : tie.Need-returns-then-ran-ne-BUDGET
 returns c =
     let w = c.before.before.before.before.before.before.before.before in
     let answer = ap (λ x. x.answer) c.told.ensures in
@@ -116,14 +116,14 @@ returns c =
       read = read w;
       onward = omega (arith, ticks);
       bounded = omega (arith, ticks, in_budget w);
-      rest = λ ds f. ended w ds f c.told.result c.before.before.if1.true answer ticks;
+      rest = λ ds f. ended w ds f c.told.result c.if-ran-ne-BUDGET.true answer ticks;
     }
 
-returns_2 : tie.Need-returns-2
+returns_2 : tie.Need-returns
 returns_2 c =
     let r = c.before.before.before.before in
     let w = r.before.before.before.before.before.before.before.before.before.before in
-    let spent = r.before.before.before.before.if1.false in
+    let spent = r.if-ran-ne-BUDGET.false in
     let now = all_done (quiet w) spent in
     let due : done w + (a w).ticks < b w → (d w).tick ≤ suc (done w + (a w).ticks) =
     λ g. omega (arith, now, due_then (d w).tick (done w) (b w) (start w).requires.1 (omega (arith, now, g))) in

@@ -22,41 +22,41 @@ next l last i many h =
     let one : i + 1 ≡ suc i = omega arith in
     rw (more, one)
 
-abbrev invariant_loop : tie.invariant_loop
+abbrev invariant_loop : tie.invariant-loop-i
 invariant_loop list records last₀ i₀ last i =
     (i ≤ records) × (rising 0 (records_of list) ≡ rising last (records_from list i (records - i)))
 
-abbrev decreases_loop : tie.decreases_loop
+abbrev decreases_loop : tie.decreases-loop-i
 decreases_loop list records last₀ i₀ last i = records - i
 
-loop_holds : tie.Need-loop-init invariant_loop decreases_loop
+loop_holds : tie.Need-loop-i-init invariant_loop decreases_loop
 loop_holds c = (omega arith, rw sub-zero)
 
-tick_at_requires : tie.Need-tick-at-requires invariant_loop decreases_loop
-tick_at_requires c κs = c.loop-test.true
+tick_at_requires : tie.Need-tick_at-tick-requires invariant_loop decreases_loop
+tick_at_requires c κs = c.loop-i-test.true
 
-returns : tie.Need-returns invariant_loop decreases_loop
+returns : tie.Need-returns-then-tick-last invariant_loop decreases_loop
 returns c =
     let l = c.before.before.before in
-    let list = l.before.before.args.list.now in
-    let low : (record_at list l.loop.i).tick ≤ l.loop.last = omega (arith, c.if1.true, c.before.tick-at.ensures) in
-    sym (l.loop.invariant.1 ∙ next list l.loop.last l.loop.i (length list / 5) c.before.before.loop-test.true ∙ rw (le-ltb l.loop.last (record_at list l.loop.i).tick low))
+    let list = l.args.list.now in
+    let low : (record_at list l.loop-i.i).tick ≤ l.loop-i.last = omega (arith, c.if-tick-last.true, c.tick_at-tick.ensures) in
+    sym (l.loop-i.invariant.1 ∙ next list l.loop-i.last l.loop-i.i (length list / 5) c.loop-i-test.true ∙ rw (le-ltb l.loop-i.last (record_at list l.loop-i.i).tick low))
 
-loop_again : tie.Need-loop-preserved invariant_loop decreases_loop
+loop_again : tie.Need-loop-i-preserved invariant_loop decreases_loop
 loop_again c =
     let l = c.before.before.before in
-    let list = l.before.before.args.list.now in
-    let is = c.before.tick-at.ensures in
-    let high : l.loop.last < (record_at list l.loop.i).tick = omega (arith, c.if1.false, is) in
-    let more = c.before.before.loop-test.true in
-    (omega (arith, more), l.loop.invariant.1 ∙ next list l.loop.last l.loop.i (length list / 5) more ∙ rw (lt-ltb l.loop.last (record_at list l.loop.i).tick high, is))
+    let list = l.args.list.now in
+    let is = c.tick_at-tick.ensures in
+    let high : l.loop-i.last < (record_at list l.loop-i.i).tick = omega (arith, c.if-tick-last.false, is) in
+    let more = c.loop-i-test.true in
+    (omega (arith, more), l.loop-i.invariant.1 ∙ next list l.loop-i.last l.loop-i.i (length list / 5) more ∙ rw (lt-ltb l.loop-i.last (record_at list l.loop-i.i).tick high, is))
 
-returns_2 : tie.Need-returns-2 invariant_loop decreases_loop
+returns_2 : tie.Need-returns invariant_loop decreases_loop
 returns_2 c =
     let l = c.before in
-    let list = l.before.before.args.list.now in
-    let none : length list / 5 - l.loop.i ≡ 0 = omega (arith, c.loop-test.false) in
-    sym (l.loop.invariant.1 ∙ rw none)
+    let list = l.args.list.now in
+    let none : length list / 5 - l.loop-i.i ≡ 0 = omega (arith, c.loop-i-test.false) in
+    sym (l.loop-i.invariant.1 ∙ rw none)
 
 pub rises_spec : {M : Type 1} → statement M
 rises_spec =

@@ -7,14 +7,14 @@ use borrow.Author.Rules.{rules}
 use Rattle.schedule.proofs.list.tick_at.Statement.{statement}
 use Rattle.schedule.proofs.list.tick_at.Tie as tie
 
-high : (c : tie.After-shared-slice-known) → get_or c.before.args.list.now (5 * c.before.args.i) 0 < 256
-high c = omega (arith, c.shared-slice-known.given (5 * c.before.args.i))
+high : (c : tie.After-shared_slice_known-1) → get_or c.before.args.list.now (5 * c.before.args.i) 0 < 256
+high c = omega (arith, c.shared_slice_known-1.given (5 * c.before.args.i))
 
-middle : (c : tie.After-shared-slice-known2) → get_or c.before.before.args.list.now (5 * c.before.before.args.i + 1) 0 < 256
-middle c = omega (arith, c.shared-slice-known2.given (5 * c.before.before.args.i + 1))
+middle : (c : tie.After-shared_slice_known-2-1) → get_or c.before.before.args.list.now (5 * c.before.before.args.i + 1) 0 < 256
+middle c = omega (arith, c.shared_slice_known-2-1.given (5 * c.before.before.args.i + 1))
 
-low : (c : tie.After-shared-slice-known3) → get_or c.before.before.before.args.list.now (5 * c.before.before.before.args.i + 2) 0 < 256
-low c = omega (arith, c.shared-slice-known3.given (5 * c.before.before.before.args.i + 2))
+low : (c : tie.After-shared_slice_known-3-1) → get_or c.before.before.before.args.list.now (5 * c.before.before.before.args.i + 2) 0 < 256
+low c = omega (arith, c.shared_slice_known-3-1.given (5 * c.before.before.before.args.i + 2))
 
 pub tick_at_spec : {M : Type 1} → statement M
 tick_at_spec =

@@ -7,11 +7,11 @@ use borrow.Author.Rules.{rules}
 use Rattle.schedule.proofs.list.vector_at.Statement.{statement}
 use Rattle.schedule.proofs.list.vector_at.Tie as tie
 
-high : (c : tie.After-shared-slice-known) → get_or c.before.args.list.now (5 * c.before.args.i + 3) 0 < 256
-high c = omega (arith, c.shared-slice-known.given (5 * c.before.args.i + 3))
+high : (c : tie.After-shared_slice_known-1) → get_or c.before.args.list.now (5 * c.before.args.i + 3) 0 < 256
+high c = omega (arith, c.shared_slice_known-1.given (5 * c.before.args.i + 3))
 
-low : (c : tie.After-shared-slice-known2) → get_or c.before.before.args.list.now (5 * c.before.before.args.i + 4) 0 < 256
-low c = omega (arith, c.shared-slice-known2.given (5 * c.before.before.args.i + 4))
+low : (c : tie.After-shared_slice_known-2-1) → get_or c.before.before.args.list.now (5 * c.before.before.args.i + 4) 0 < 256
+low c = omega (arith, c.shared_slice_known-2-1.given (5 * c.before.before.args.i + 4))
 
 pub vector_at_spec : {M : Type 1} → statement M
 vector_at_spec =

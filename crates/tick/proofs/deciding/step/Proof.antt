@@ -1,7 +1,6 @@
 -- `step`: the words first, then what the instruction needs.
 -- Assumes nothing.
 use borrow.Author.Rules.{rules}
-use borrow.Author.Tests.{not-true, not-false}
 use Rattle.tick.proofs.Decided.{step_unfetched, step_fetched}
 use Rattle.tick.proofs.deciding.step.Statement.{statement}
 use Rattle.tick.proofs.deciding.step.Tie as tie
