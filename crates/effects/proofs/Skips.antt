@@ -1,16 +1,15 @@
 -- Branches and skips, in parts: PC and busy of a core that does not wait.
 -- Assumes nothing.
-use Rattle.std.proofs.Common.{◌≡◌, ℕ, ◌+◌, ◌%◌, ◌<◌, Bool, true, false, ◌||◌, eqb, List, sym, refl, ap, ◌∙◌, arith}
+use Rattle.std.proofs.Common.{◌≡◌, ℕ, ◌+◌, ◌%◌, ◌<◌, Bool, true, false, ◌||◌, eqb, List, refl, ap, arith}
 use mathlib.Core.Bool.{beq}
 use Rattle.basis.specs.Pick.{pick}
 use Rattle.basis.specs.Bit.{one, bit, up}
 use Rattle.alu.specs.Alu.{signed_of}
 use Rattle.instruction.specs.Code.{two_words}
 use Rattle.instruction.specs.Decode.{decode_of}
-use Rattle.forms.specs.Forms.{form, form_of}
 use Rattle.forms.proofs.Alone.{form_alone}
 use Rattle.memory.specs.Memory.{program_word_of}
-use Rattle.cores.specs.State.{with_pc, with_sp, with_busy, with_inhibit, with_service, with_chip, with_regs, fresh_of}
+use Rattle.cores.specs.State.{with_pc, with_sp, with_busy, with_inhibit, with_service, with_chip}
 use Rattle.cores.specs.Flow.{brbx_of, skipped, two_at}
 use Rattle.effects.specs.Parts.{stood, cored}
 

@@ -11,15 +11,15 @@ unfolding avr_tick_of
 avr_foretell_spec =
     tie.close
     (tie.spec
-    (λ c. rw (lt-ltb _ _ c.if1.true))
+    (λ c. rw (lt-ltb _ _ c.if-offer-gt65536.true))
     (λ c κs. search rules)
     (λ c. search rules)
-    (λ c. let read = c.before.before.before in rw (le-ltb _ _ read.before.if1.false, ← read.read.ensures, ne_eqb _ _ c.before.if2.true))
+    (λ c. let read = c.before.before.before in rw (le-ltb _ _ read.if-offer-gt65536.false, ← read.read-read.ensures, ne_eqb _ _ c.if-read-ne0.true))
     (λ c κs. search rules)
     (λ c κs. search rules)
     (λ c κs. search rules)
     (λ c. search rules)
     (λ c. let offered = c.before.before in
     let read = offered.before.before.before in
-    rw (le-ltb _ _ read.before.if1.false, ← read.read.ensures, eq-eqb _ _ offered.before.if2.false, ← offered.offer-of.ensures, ← c.before.foretell.ensures)
+    rw (le-ltb _ _ read.if-offer-gt65536.false, ← read.read-read.ensures, eq-eqb _ _ offered.if-read-ne0.false, ← offered.offer_of.ensures, ← c.foretell.ensures)
     c.number.ensures))

@@ -12,38 +12,38 @@ use Rattle.host.specs.Host.{avr_run_of}
 use Rattle.host.proofs.avr_run.Statement.{statement}
 use Rattle.host.proofs.avr_run.Tie as tie
 
-returns_2 : tie.Need-returns-2
+returns_2 : tie.Need-returns-then-of_check
 unfolding avr_run_of
 returns_2 c =
     let ran = c.before.before.before.before.before.before.before in
-    let offered = ran.before.offer-of in
-    let a = ran.before.before.before.before.before.before.before.before.args in
+    let offered = ran.offer_of in
+    let a = ran.args in
     let s = a.snapshot.now in
     let p = a.program.now in
     let m = a.«data».now in
     let o = offered.result in
-    let w = ran.run_in.ensures in
-    let told = sym (check_told s p m o a.budget) ∙ sym (ap of_check w.answer) ∙ sym c.before.before.of-check.ensures ∙ c.before.if2.true in
+    let w = ran.run_in-over.ensures in
+    let told = sym (check_told s p m o a.budget) ∙ sym (ap of_check w.answer) ∙ sym c.of_check.ensures ∙ c.if-of_check.true in
     let e : eqb (read_of s).refusal 0 ≡ false = not-true (eqb (read_of s).refusal 0) told in
     let is = run_in_refused s p m o a.budget e in
-    rw (le-ltb _ _ ran.before.before.before.before.if1.false, e)
+    rw (le-ltb _ _ ran.if-offer-gt65536.false, e)
     (record { number = w.answer ∙ ap (λ r. r.answer) is; snapshot = w.snapshot ∙ ap (λ r. r.snapshot) is; bytes = w.bytes ∙ ap (λ r. r.bytes) is; ticks = refl })
 
-returns_3 : tie.Need-returns-3
+returns_3 : tie.Need-returns
 unfolding avr_run_of
 returns_3 c =
     let ran = c.before.before.before.before.before.before.before in
-    let offered = ran.before.offer-of in
-    let a = ran.before.before.before.before.before.before.before.before.args in
+    let offered = ran.offer_of in
+    let a = ran.args in
     let s = a.snapshot.now in
     let p = a.program.now in
     let m = a.«data».now in
     let o = offered.result in
-    let w = ran.run_in.ensures in
-    let told = sym (check_told s p m o a.budget) ∙ sym (ap of_check w.answer) ∙ sym c.before.before.of-check.ensures ∙ c.before.if2.false in
+    let w = ran.run_in-over.ensures in
+    let told = sym (check_told s p m o a.budget) ∙ sym (ap of_check w.answer) ∙ sym c.of_check.ensures ∙ c.if-of_check.false in
     let e : eqb (read_of s).refusal 0 ≡ true = not-false (eqb (read_of s).refusal 0) told in
     let is = run_in_passed s p m o a.budget e in
-    rw (le-ltb _ _ ran.before.before.before.before.if1.false, e, ← offered.ensures)
+    rw (le-ltb _ _ ran.if-offer-gt65536.false, e, ← offered.ensures)
     (record { number = w.answer ∙ ap (λ r. r.answer) is; snapshot = w.snapshot ∙ ap (λ r. r.snapshot) is; bytes = w.bytes ∙ ap (λ r. r.bytes) is; ticks = w.count ∙ ap (λ r. r.count) is })
 
 pub avr_run_spec : {M : Type 1} → statement M
@@ -51,7 +51,7 @@ unfolding avr_run_of
 avr_run_spec =
     tie.close
     (tie.spec
-    (λ c. rw (lt-ltb _ _ c.if1.true) (record { number = refl; snapshot = refl; bytes = refl; ticks = refl }))
+    (λ c. rw (lt-ltb _ _ c.if-offer-gt65536.true) (record { number = refl; snapshot = refl; bytes = refl; ticks = refl }))
     (λ c κs. search rules)
     (λ c κs. search rules)
     (λ c κs. search rules)

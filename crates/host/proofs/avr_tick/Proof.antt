@@ -33,13 +33,13 @@ unfolding avr_tick_of
 avr_tick_spec =
     tie.close
     (tie.spec
-    (λ c. rw (lt-ltb _ _ c.if1.true) (record { number = refl; snapshot = refl; bytes = refl }))
+    (λ c. rw (lt-ltb _ _ c.if-offer-gt65536.true) (record { number = refl; snapshot = refl; bytes = refl }))
     (λ c κs. search rules)
     (λ c κs. search rules)
     (λ c. search rules)
     (λ c. search rules)
     (λ c. search rules)
-    (λ c. let a = c.before.before.before.before.before.before.before.before.before.before.before.before.args in
-    let offered = c.before.before.before.before.before.offer-of in
-    rw (le-ltb _ _ c.before.before.before.before.before.before.before.before.if1.false, ← offered.ensures)
-    (tells a.snapshot.now a.program.now a.«data».now offered.result c.before.before.before.before.tick_in.ensures)))
+    (λ c. let a = c.args in
+    let offered = c.offer_of in
+    rw (le-ltb _ _ c.if-offer-gt65536.false, ← offered.ensures)
+    (tells a.snapshot.now a.program.now a.«data».now offered.result c.tick_in.ensures)))

@@ -10,5 +10,5 @@ offer_of_spec =
     tie.close
     (tie.spec
     (λ c. search rules)
-    (λ c. rw (lt-ltb c.before.args.offer 65536 c.if1.true))
-    (λ c. rw (le-ltb _ _ c.if1.false)))
+    (λ c. rw (lt-ltb c.args.offer 65536 c.if-offer-lt65536.true))
+    (λ c. rw (le-ltb _ _ c.if-offer-lt65536.false)))

@@ -7,16 +7,16 @@ use borrow.Author.Rules.{rules}
 use Rattle.schedule_text.proofs.put_record.Statement.{statement}
 use Rattle.schedule_text.proofs.put_record.Tie as tie
 
-slice_write_list_2 : tie.Need-slice-write-list-2
+slice_write_list_2 : tie.Need-bounds-list-at-2
 slice_write_list_2 c = rw length-set (omega (arith, c.requires.0))
 
-slice_write_list_3 : tie.Need-slice-write-list-3
+slice_write_list_3 : tie.Need-bounds-list-at-3
 slice_write_list_3 c = simp length-set (omega (arith, c.requires.0))
 
-slice_write_list_4 : tie.Need-slice-write-list-4
+slice_write_list_4 : tie.Need-bounds-list-at-4
 slice_write_list_4 c = simp length-set (omega (arith, c.requires.0))
 
-slice_write_list_5 : tie.Need-slice-write-list-5
+slice_write_list_5 : tie.Need-bounds-list-at-5
 slice_write_list_5 c = simp length-set (omega (arith, c.requires.0))
 
 returns : tie.Need-returns

@@ -9,80 +9,80 @@ use Rattle.schedule_text.proofs.Through.{Through, begins, kept, over, stopped, p
 use Rattle.schedule_text.proofs.read.Statement.{statement}
 use Rattle.schedule_text.proofs.read.Tie as tie
 
-abbrev invariant_loop : tie.invariant_loop
+abbrev invariant_loop : tie.invariant-loop-at
 invariant_loop text list₀ room at₀ number₀ last₀ records₀ list at number last records = Through text list₀ list room at number last records
 
-abbrev decreases_loop : tie.decreases_loop
+abbrev decreases_loop : tie.decreases-loop-at
 decreases_loop text list₀ room at₀ number₀ last₀ records₀ list at number last records = length text - at
 
-loop_holds : tie.Need-loop-init invariant_loop decreases_loop
-loop_holds c = let a = c.before.before.args in begins a.text.now a.list.now _
+loop_holds : tie.Need-loop-at-init invariant_loop decreases_loop
+loop_holds c = let a = c.args in begins a.text.now a.list.now _
 
 -- the line of a turn
-line_found : (c : tie.After-line-at invariant_loop decreases_loop)
-    → Found c.before.before.before.before.before.args.text.now c.before.before.loop.at c.line_at_lem.result.stop c.line_at_lem.result.next
-line_found c = let l = c.before.before in found l.before.before.before.args.text.now l.loop.at c.line_at_lem.result c.before.loop-test.true c.line_at_lem.ensures
+line_found : (c : tie.After-line_at-found invariant_loop decreases_loop)
+    → Found c.before.before.before.before.before.args.text.now c.before.before.loop-at.at c.line_at-found.result.stop c.line_at-found.result.next
+line_found c = let l = c.before.before in found l.before.before.before.args.text.now l.loop-at.at c.line_at-found.result c.before.loop-at-test.true c.line_at-found.ensures
 
-part_judge_end : tie.Need-slice-bounds-judge-end invariant_loop decreases_loop
+part_judge_end : tie.Need-slice_bounds-judge-end invariant_loop decreases_loop
 part_judge_end c = let f = line_found c in let b = f.stops in let d = f.fits in omega arith
 
-sub_judge_2 : tie.Need-overflow-sub-judge-2 invariant_loop decreases_loop
-sub_judge_2 c = c.before.before.before.loop.invariant.few
+sub_judge_2 : tie.Need-overflow_sub-room invariant_loop decreases_loop
+sub_judge_2 c = c.loop-at.invariant.few
 
-same_length : tie.Need-same-length invariant_loop decreases_loop
-same_length c = kept c.before.before.before.before.before.before.loop.invariant
+same_length : tie.Need-shape_of-list-then-judged-ne0 invariant_loop decreases_loop
+same_length c = kept c.loop-at.invariant
 
-returns : tie.Need-returns invariant_loop decreases_loop
+returns : tie.Need-returns-then-judged-ne0 invariant_loop decreases_loop
 returns c =
     let j = c.before.before in
     let a = j.before.before in
-    let w = a.before.before.loop.invariant in
-    rw (stopped w (line_found a) j.judge.result j.judge.ensures c.if1.true) (rw w.many, w.list_is)
+    let w = a.loop-at.invariant in
+    rw (stopped w (line_found a) j.judge-judged.result j.judge-judged.ensures c.if-judged-ne0.true) (rw w.many, w.list_is)
 
-add_number : tie.Need-overflow-add-number invariant_loop decreases_loop
+add_number : tie.Need-overflow_add-number invariant_loop decreases_loop
 add_number c =
     let l = c.before.before.before.before.before.before in
-    let n = l.loop.invariant.number in
-    let i = l.loop.invariant.inside in
+    let n = l.loop-at.invariant.number in
+    let i = l.loop-at.invariant.inside in
     search rules
 
-put_record_requires : tie.Need-put-record-requires invariant_loop decreases_loop
+put_record_requires : tie.Need-put_record-requires invariant_loop decreases_loop
 put_record_requires c κs =
     let j = c.before.before.before.before in
     let a = j.before.before in
-    put_asks a.before.before.loop.invariant (line_found a) j.judge.result j.judge.ensures c.before.before.if1.false c.before.if2.true
+    put_asks a.loop-at.invariant (line_found a) j.judge-judged.result j.judge-judged.ensures c.if-judged-ne0.false c.if-judged.true
 
-add_records : tie.Need-overflow-add-records invariant_loop decreases_loop
+add_records : tie.Need-overflow_add-records invariant_loop decreases_loop
 add_records c =
-    let w = c.before.before.before.before.before.before.before.before.before.before.before.loop.invariant in
+    let w = c.loop-at.invariant in
     let f = w.few in
     search rules
 
-loop_less : tie.Need-loop-smaller invariant_loop decreases_loop
+loop_less : tie.Need-loop-at-smaller-then-judged invariant_loop decreases_loop
 loop_less c = let f = line_found c.before.before.before.before.before.before.before.before.before in let m = f.moves in let g = f.fits in omega arith
 
-loop_again : tie.Need-loop-preserved invariant_loop decreases_loop
+loop_again : tie.Need-loop-at-preserved-then-judged invariant_loop decreases_loop
 loop_again c =
     let p = c.before.before in
     let i = p.before.before in
     let j = i.before.before.before in
     let a = j.before.before in
-    fired a.before.before.loop.invariant (line_found a) j.judge.result j.judge.ensures i.before.if1.false i.if2.true p.put_record.ensures
+    fired a.loop-at.invariant (line_found a) j.judge-judged.result j.judge-judged.ensures i.if-judged-ne0.false i.if-judged.true p.put_record.ensures
 
-loop_less_2 : tie.Need-loop-smaller-2 invariant_loop decreases_loop
+loop_less_2 : tie.Need-loop-at-smaller invariant_loop decreases_loop
 loop_less_2 c = let f = line_found c.before.before.before.before.before in let m = f.moves in let g = f.fits in omega arith
 
-loop_again_2 : tie.Need-loop-preserved-2 invariant_loop decreases_loop
+loop_again_2 : tie.Need-loop-at-preserved invariant_loop decreases_loop
 loop_again_2 c =
     let j = c.before.before.before in
     let a = j.before.before in
-    passed a.before.before.loop.invariant (line_found a) j.judge.result j.judge.ensures c.before.if1.false c.if2.false
+    passed a.loop-at.invariant (line_found a) j.judge-judged.result j.judge-judged.ensures c.if-judged-ne0.false c.if-judged.false
 
-same_length_2 : tie.Need-same-length-2 invariant_loop decreases_loop
-same_length_2 c = kept c.before.loop.invariant
+same_length_2 : tie.Need-shape_of-list invariant_loop decreases_loop
+same_length_2 c = kept c.loop-at.invariant
 
-returns_2 : tie.Need-returns-2 invariant_loop decreases_loop
-returns_2 c = let w = c.before.loop.invariant in rw (over w c.loop-test.false) (rw w.many, w.list_is)
+returns_2 : tie.Need-returns invariant_loop decreases_loop
+returns_2 c = let w = c.loop-at.invariant in rw (over w c.loop-at-test.false) (rw w.many, w.list_is)
 
 pub read_spec : {M : Type 1} → statement M
 read_spec =

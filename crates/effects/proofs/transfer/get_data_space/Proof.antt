@@ -1,7 +1,7 @@
 -- `get_data_space`: the three addresses, and the bytes of data elsewhere.
 -- Assumes nothing.
 use Rattle.cores.proofs.Space.{data_elsewhere}
-use Rattle.cores.specs.State.{with_sp, with_regs, fresh_of}
+use Rattle.cores.specs.State.{with_sp}
 use Rattle.cores.specs.Transfer.{data_of}
 use Rattle.std.proofs.Common.{rules}
 use Rattle.effects.proofs.transfer.get_data_space.Statement.{statement}

@@ -5,17 +5,17 @@ use borrow.Author.Rules.{rules}
 use Rattle.host.proofs.hex_files.avr_hex_write.Statement.{statement}
 use Rattle.host.proofs.hex_files.avr_hex_write.Tie as tie
 
-write_requires : tie.Need-write-requires
+write_requires : tie.Need-write-wrote-requires
 write_requires c κs = search rules
 
-cast_result : tie.Need-overflow-cast-result
+cast_result : tie.Need-overflow_cast-result
 cast_result c = search rules
 
-same_length : tie.Need-same-length
+same_length : tie.Need-shape_of-text
 same_length c = search rules
 
 returns : tie.Need-returns
-returns c = let (answer, buffer) = c.before.before.before.write.ensures in (ap (λ r. r.refusal) answer, (buffer, ap (λ r. r.length) answer))
+returns c = let (answer, buffer) = c.write-wrote.ensures in (ap (λ r. r.refusal) answer, (buffer, ap (λ r. r.length) answer))
 
 pub avr_hex_write_spec : {M : Type 1} → statement M
 avr_hex_write_spec = tie.close (tie.spec write_requires cast_result same_length returns)

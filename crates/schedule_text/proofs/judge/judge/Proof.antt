@@ -4,14 +4,14 @@ use borrow.Author.Rules.{rules}
 use Rattle.schedule_text.proofs.judge.judge.Statement.{statement}
 use Rattle.schedule_text.proofs.judge.judge.Tie as tie
 
-returns : tie.Need-returns
-returns c = rw (← c.before.before.said-by.ensures, c.enum_told.given.1)
+returns : tie.Need-returns-in-Nothing
+returns c = rw (← c.said_by.ensures, c.in-Nothing.is)
 
-returns_2 : tie.Need-returns-2
-returns_2 c = rw (← c.before.before.said-by.ensures, c.enum-told2.given.1)
+returns_2 : tie.Need-returns-in-Wrong
+returns_2 c = rw (← c.said_by.ensures, c.in-Wrong.is)
 
-returns_3 : tie.Need-returns-3
-returns_3 c = rw (← c.before.before.before.before.said-by.ensures, c.before.before.tick.given.1, c.fault.ensures)
+returns_3 : tie.Need-returns-in-Firing
+returns_3 c = rw (← c.said_by.ensures, c.in-Firing.is, c.fault.ensures)
 
 pub judge_spec : {M : Type 1} → statement M
 judge_spec =

@@ -6,11 +6,11 @@ use Rattle.schedule_text.proofs.Characters.{over_out, over_here}
 use Rattle.schedule_text.proofs.line.is_over.Statement.{statement}
 use Rattle.schedule_text.proofs.line.is_over.Tie as tie
 
-returns : tie.Need-returns
-returns c = let a = c.before.args in sym (over_out a.line.now a.at c.if1.true)
+returns : tie.Need-returns-then-at-line
+returns c = let a = c.args in sym (over_out a.line.now a.at c.if-at-line.true)
 
-returns_2 : tie.Need-returns-2
-returns_2 c = let a = c.before.before.args in sym (over_here a.line.now a.at c.before.if1.false)
+returns_2 : tie.Need-returns
+returns_2 c = let a = c.args in sym (over_here a.line.now a.at c.if-at-line.false)
 
 pub is_over_spec : {M : Type 1} → statement M
 is_over_spec = tie.close (tie.spec returns (λ c. search rules) returns_2)

@@ -11,10 +11,10 @@ use Rattle.schedule_text.proofs.Characters.{blank, no_blank, blanks_out}
 use Rattle.schedule_text.proofs.line.skip.Statement.{statement}
 use Rattle.schedule_text.proofs.line.skip.Tie as tie
 
-abbrev invariant_loop : tie.invariant_loop
+abbrev invariant_loop : tie.invariant-loop-i
 invariant_loop line at i₀ i = at + blanks (drop at line) ≡ i + blanks (drop i line)
 
-abbrev decreases_loop : tie.decreases_loop
+abbrev decreases_loop : tie.decreases-loop-i
 decreases_loop line at i₀ i = length line - i
 
 -- a character that is not a blank and not a tab, and one that is either
@@ -28,22 +28,22 @@ one_of true b h = refl
 one_of false true h = refl
 one_of false false h = sym h
 
-returns : tie.Need-returns invariant_loop decreases_loop
+returns : tie.Need-returns-then-c invariant_loop decreases_loop
 returns c =
     let l = c.before.before.before in
-    let line = l.before.args.line.now in
-    sym (l.loop.invariant ∙ no_blank line l.loop.i c.before.before.loop-test.true (neither (eqb (get_or line l.loop.i 0) 32) (eqb (get_or line l.loop.i 0) 9) c.if1.true))
+    let line = l.args.line.now in
+    sym (l.loop-i.invariant ∙ no_blank line l.loop-i.i c.loop-i-test.true (neither (eqb (get_or line l.loop-i.i 0) 32) (eqb (get_or line l.loop-i.i 0) 9) c.if-c.true))
 
-loop_again : tie.Need-loop-preserved invariant_loop decreases_loop
+loop_again : tie.Need-loop-i-preserved invariant_loop decreases_loop
 loop_again c =
     let l = c.before.before.before in
-    let line = l.before.args.line.now in
-    l.loop.invariant ∙ blank line l.loop.i c.before.before.loop-test.true (one_of (eqb (get_or line l.loop.i 0) 32) (eqb (get_or line l.loop.i 0) 9) c.if1.false)
+    let line = l.args.line.now in
+    l.loop-i.invariant ∙ blank line l.loop-i.i c.loop-i-test.true (one_of (eqb (get_or line l.loop-i.i 0) 32) (eqb (get_or line l.loop-i.i 0) 9) c.if-c.false)
 
-returns_2 : tie.Need-returns-2 invariant_loop decreases_loop
+returns_2 : tie.Need-returns invariant_loop decreases_loop
 returns_2 c =
     let l = c.before in
-    sym (l.loop.invariant ∙ blanks_out l.before.args.line.now l.loop.i c.loop-test.false)
+    sym (l.loop-i.invariant ∙ blanks_out l.args.line.now l.loop-i.i c.loop-i-test.false)
 
 pub skip_spec : {M : Type 1} → statement M
 skip_spec =

@@ -12,11 +12,11 @@ use Rattle.schedule_text.proofs.Characters.{digits_end, digit_none, digit_no, di
 use Rattle.schedule_text.proofs.number.digits.Statement.{statement}
 use Rattle.schedule_text.proofs.number.digits.Tie as tie
 
-abbrev invariant_loop : tie.invariant_loop
+abbrev invariant_loop : tie.invariant-loop-length
 invariant_loop line at base value₀ n₀ value n =
     (n ≤ 8) × ((value < 16 ^ n) × (digits_from 8 base 0 0 (drop at line) ≡ digits_from (8 - n) base value n (drop (at + n) line)))
 
-abbrev decreases_loop : tie.decreases_loop
+abbrev decreases_loop : tie.decreases-loop-length
 decreases_loop line at base value₀ n₀ value n = 8 - n
 
 -- a digit more is a number of one place more
@@ -30,85 +30,85 @@ grows base value n d b v h =
 fits : (n : ℕ) → n < 8 → 16 ^ (n + 1) ≤ 4294967296
 fits n h = pow-le-pow_right {n = 16} (omega arith) {i = n + 1} {j = 8} (omega arith)
 
-loop_holds : tie.Need-loop-init invariant_loop decreases_loop
+loop_holds : tie.Need-loop-length-init invariant_loop decreases_loop
 loop_holds c = (search rules, (search rules, rw add-zero))
 
-add_if1 : tie.Need-overflow-add-if1 invariant_loop decreases_loop
+add_if1 : tie.Need-overflow_add-at invariant_loop decreases_loop
 add_if1 c = search rules
 
-returns : tie.Need-returns invariant_loop decreases_loop
+returns : tie.Need-returns-then-at-length invariant_loop decreases_loop
 returns c =
     let l = c.before.before in
-    let a = l.before.before.args in
-    let n = l.loop.length in
-    sym (l.loop.invariant.1.1 ∙ digit_none a.line.now (a.at + n) (8 - n) a.base l.loop.value n c.if1.true)
+    let a = l.args in
+    let n = l.loop-length.length in
+    sym (l.loop-length.invariant.1.1 ∙ digit_none a.line.now (a.at + n) (8 - n) a.base l.loop-length.value n c.if-at-length.true)
 
-add_worth : tie.Need-overflow-add-worth invariant_loop decreases_loop
+add_worth : tie.Need-overflow_add-at-in-loop-length invariant_loop decreases_loop
 add_worth c = search rules
 
-shared_slice_read_worth : tie.Need-shared-slice-read-worth invariant_loop decreases_loop
+shared_slice_read_worth : tie.Need-bounds-line-at invariant_loop decreases_loop
 shared_slice_read_worth c = search rules
 
-worth_requires : tie.Need-worth-requires invariant_loop decreases_loop
+worth_requires : tie.Need-worth-digit-requires invariant_loop decreases_loop
 worth_requires c κs = search rules
 
-cast_digit : tie.Need-overflow-cast-digit invariant_loop decreases_loop
+cast_digit : tie.Need-overflow_cast-digit invariant_loop decreases_loop
 cast_digit c = search rules
 
-returns_2 : tie.Need-returns-2 invariant_loop decreases_loop
+returns_2 : tie.Need-returns-then-digit-base invariant_loop decreases_loop
 returns_2 c =
     let l = c.before.before.before.before.before in
-    let a = l.before.before.args in
-    let n = l.loop.length in
+    let a = l.args in
+    let n = l.loop-length.length in
     let t = a.line.now in
-    let more : 8 - n ≡ suc (8 - (n + 1)) = omega (arith, c.before.before.before.before.loop-test.true) in
-    let none : a.base ≤ worth (get_or t (a.at + n) 0) = omega (arith, c.if2.true, c.before.worth.ensures) in
-    sym (l.loop.invariant.1.1 ∙ rw more (digit_no t (a.at + n) (8 - (n + 1)) a.base l.loop.value n c.before.before.before.if1.false none))
+    let more : 8 - n ≡ suc (8 - (n + 1)) = omega (arith, c.loop-length-test.true) in
+    let none : a.base ≤ worth (get_or t (a.at + n) 0) = omega (arith, c.if-digit-base.true, c.worth-digit.ensures) in
+    sym (l.loop-length.invariant.1.1 ∙ rw more (digit_no t (a.at + n) (8 - (n + 1)) a.base l.loop-length.value n c.if-at-length.false none))
 
-mul_value : tie.Need-overflow-mul-value invariant_loop decreases_loop
+mul_value : tie.Need-overflow_mul-value invariant_loop decreases_loop
 mul_value c =
     let l = c.before.before.before.before.before in
     let s = l.before.before in
-    let g = grows s.args.base l.loop.value l.loop.length c.before.worth.result s.requires.1 l.loop.invariant.1.0 c.if2.false in
-    let f = fits l.loop.length c.before.before.before.before.loop-test.true in
+    let g = grows s.args.base l.loop-length.value l.loop-length.length c.worth-digit.result s.requires.1 l.loop-length.invariant.1.0 c.if-digit-base.false in
+    let f = fits l.loop-length.length c.loop-length-test.true in
     search rules
 
-add_value : tie.Need-overflow-add-value invariant_loop decreases_loop
+add_value : tie.Need-overflow_add-value invariant_loop decreases_loop
 add_value c =
     let l = c.before.before.before.before.before in
     let s = l.before.before in
-    let g = grows s.args.base l.loop.value l.loop.length c.before.worth.result s.requires.1 l.loop.invariant.1.0 c.if2.false in
-    let f = fits l.loop.length c.before.before.before.before.loop-test.true in
+    let g = grows s.args.base l.loop-length.value l.loop-length.length c.worth-digit.result s.requires.1 l.loop-length.invariant.1.0 c.if-digit-base.false in
+    let f = fits l.loop-length.length c.loop-length-test.true in
     search rules
 
-add_length : tie.Need-overflow-add-length invariant_loop decreases_loop
+add_length : tie.Need-overflow_add-length invariant_loop decreases_loop
 add_length c = search rules
 
-loop_less : tie.Need-loop-smaller invariant_loop decreases_loop
+loop_less : tie.Need-loop-length-smaller invariant_loop decreases_loop
 loop_less c = search rules
 
-loop_again : tie.Need-loop-preserved invariant_loop decreases_loop
+loop_again : tie.Need-loop-length-preserved invariant_loop decreases_loop
 loop_again c =
     let l = c.before.before.before.before.before in
     let s = l.before.before in
     let a = s.args in
-    let n = l.loop.length in
+    let n = l.loop-length.length in
     let t = a.line.now in
-    let w = c.before.worth.ensures in
-    let more : 8 - n ≡ suc (8 - (n + 1)) = omega (arith, c.before.before.before.before.loop-test.true) in
-    let one : worth (get_or t (a.at + n) 0) < a.base = omega (arith, c.if2.false, w) in
-    let step = digit_more t (a.at + n) (8 - (n + 1)) a.base l.loop.value n c.before.before.before.if1.false one in (
-      omega (arith, c.before.before.before.before.loop-test.true),
-      (grows a.base l.loop.value n c.before.worth.result s.requires.1 l.loop.invariant.1.0 c.if2.false, l.loop.invariant.1.1 ∙ rw (more, step, w, add_assoc)),
+    let w = c.worth-digit.ensures in
+    let more : 8 - n ≡ suc (8 - (n + 1)) = omega (arith, c.loop-length-test.true) in
+    let one : worth (get_or t (a.at + n) 0) < a.base = omega (arith, c.if-digit-base.false, w) in
+    let step = digit_more t (a.at + n) (8 - (n + 1)) a.base l.loop-length.value n c.if-at-length.false one in (
+      omega (arith, c.loop-length-test.true),
+      (grows a.base l.loop-length.value n c.worth-digit.result s.requires.1 l.loop-length.invariant.1.0 c.if-digit-base.false, l.loop-length.invariant.1.1 ∙ rw (more, step, w, add_assoc)),
     )
 
-returns_3 : tie.Need-returns-3 invariant_loop decreases_loop
+returns_3 : tie.Need-returns invariant_loop decreases_loop
 returns_3 c =
     let l = c.before in
-    let a = l.before.before.args in
-    let n = l.loop.length in
-    let eight : 8 - n ≡ 0 = omega (arith, c.loop-test.false) in
-    sym (l.loop.invariant.1.1 ∙ rw eight (digits_end a.base l.loop.value n (drop (a.at + n) a.line.now)))
+    let a = l.args in
+    let n = l.loop-length.length in
+    let eight : 8 - n ≡ 0 = omega (arith, c.loop-length-test.false) in
+    sym (l.loop-length.invariant.1.1 ∙ rw eight (digits_end a.base l.loop-length.value n (drop (a.at + n) a.line.now)))
 
 pub digits_spec : {M : Type 1} → statement M
 digits_spec =

@@ -10,35 +10,35 @@ use Rattle.schedule_text.proofs.Forms.{digits_few, two_inside, hex_number}
 use Rattle.schedule_text.proofs.number.number_at.Statement.{statement}
 use Rattle.schedule_text.proofs.number.number_at.Tie as tie
 
-digits_requires : tie.Need-digits-requires
+digits_requires : tie.Need-digits-hex-requires
 digits_requires c κs =
     let s = c.before.before.before in
-    (two_inside s.args.line.now s.args.at s.requires (sym c.before.starts-hex.ensures ∙ c.if1.true), omega arith)
+    (two_inside s.args.line.now s.args.at s.requires (sym c.starts_hex.ensures ∙ c.if-starts_hex.true), omega arith)
 
-add_length : tie.Need-overflow-add-length
+add_length : tie.Need-overflow_add-length
 add_length c =
     let d = c.before.before.before in
-    let a = d.before.before.before.before.args in
-    let n = d.digits.ensures in
-    let few : d.digits.result.length ≤ 8 = rw n (omega (arith, digits_few 8 16 0 0 (drop (a.at + 2) a.line.now))) in
+    let a = d.args in
+    let n = d.digits-hex.ensures in
+    let few : d.digits-hex.result.length ≤ 8 = rw n (omega (arith, digits_few 8 16 0 0 (drop (a.at + 2) a.line.now))) in
     search rules
 
-returns : tie.Need-returns
+returns : tie.Need-returns-then-hex-gt0
 returns c =
     let d = c.before.before.before in
-    let a = d.before.before.before.before.args in
-    let x = sym d.before.before.starts-hex.ensures ∙ d.before.if1.true in
-    rw (hex_number a.line.now a.at d.digits.result x d.digits.ensures, lt-ltb 0 d.digits.result.length c.before.if2.true)
+    let a = d.args in
+    let x = sym d.starts_hex.ensures ∙ d.if-starts_hex.true in
+    rw (hex_number a.line.now a.at d.digits-hex.result x d.digits-hex.ensures, lt-ltb 0 d.digits-hex.result.length c.if-hex-gt0.true)
 
-returns_2 : tie.Need-returns-2
+returns_2 : tie.Need-returns-else-hex-gt0
 returns_2 c =
     let d = c.before.before in
-    let a = d.before.before.before.before.args in
-    let x = sym d.before.before.starts-hex.ensures ∙ d.before.if1.true in
-    rw (hex_number a.line.now a.at d.digits.result x d.digits.ensures, le-ltb 0 d.digits.result.length c.if2.false)
+    let a = d.args in
+    let x = sym d.starts_hex.ensures ∙ d.if-starts_hex.true in
+    rw (hex_number a.line.now a.at d.digits-hex.result x d.digits-hex.ensures, le-ltb 0 d.digits-hex.result.length c.if-hex-gt0.false)
 
-returns_3 : tie.Need-returns-3
-returns_3 c = rw (← c.before.before.starts-hex.ensures, c.before.if1.false) c.digits2.ensures
+returns_3 : tie.Need-returns
+returns_3 c = rw (← c.starts_hex.ensures, c.if-starts_hex.false) c.digits.ensures
 
 pub number_at_spec : {M : Type 1} → statement M
 number_at_spec =

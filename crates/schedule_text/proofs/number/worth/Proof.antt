@@ -15,30 +15,30 @@ use Rattle.schedule_text.proofs.number.worth.Tie as tie
 above : (first last c : ℕ) → (leb first c && leb c last) ≡ true → first ≤ c
 above first last c h = leb-true first c (both_true (leb first c) (leb c last) h).0
 
-returns : tie.Need-returns
+returns : tie.Need-returns-then-c
 unfolding worth
-returns c = rw c.if1.true
+returns c = rw c.if-c.true
 
-returns_2 : tie.Need-returns-2
+returns_2 : tie.Need-returns-then-c-2
 unfolding worth
-returns_2 c = rw (c.before.if1.false, c.if2.true)
+returns_2 c = rw (c.if-c.false, c.if-c-2.true)
 
-returns_3 : tie.Need-returns-3
+returns_3 : tie.Need-returns-then-c-3
 unfolding worth
-returns_3 c = rw (c.before.before.if1.false, c.before.if2.false, c.if3.true)
+returns_3 c = rw (c.if-c.false, c.if-c-2.false, c.if-c-3.true)
 
-returns_4 : tie.Need-returns-4
+returns_4 : tie.Need-returns
 unfolding worth
-returns_4 c = rw (c.before.before.if1.false, c.before.if2.false, c.if3.false)
+returns_4 c = rw (c.if-c.false, c.if-c-2.false, c.if-c-3.false)
 
 pub worth_spec : {M : Type 1} → statement M
 worth_spec =
     tie.close
     (tie.spec
-    (λ c. above 48 57 c.before.args.c c.if1.true)
+    (λ c. above 48 57 c.args.c c.if-c.true)
     returns
-    (λ c. omega (arith, above 65 70 c.before.before.args.c c.if2.true))
+    (λ c. omega (arith, above 65 70 c.args.c c.if-c-2.true))
     returns_2
-    (λ c. omega (arith, above 97 102 c.before.before.before.args.c c.if3.true))
+    (λ c. omega (arith, above 97 102 c.args.c c.if-c-3.true))
     returns_3
     returns_4)
