@@ -3,7 +3,7 @@
 use mathlib.Core.Path.{◌≡◌, refl, sym, ap, subst, ◌∙◌}
 use mathlib.Core.Logic.{◌↔◌, ◌⊎◌, inl, inr}
 use mathlib.Core.Bool.{Bool, true, false, not, ◌&&◌}
-use mathlib.Core.List.{List, [], ◌∷◌}
+use mathlib.Core.List.{List, [], ◌∷◌, ◌++◌}
 use Prim.Native.Nat.{ℕ, zero, suc, ◌+◌, ◌/◌, ◌%◌, ◌≤◌, ◌<◌}
 use native.Mathlib.Omega.{arith}
 use borrow.Author.Tests.{ltb-false, le-ltb, ne_eqb}
@@ -41,9 +41,17 @@ module _ (s : List ℕ) (offer a : ℕ) (l : List (ℕ × Bool)) where
       → Fits a ((10, false) ∷ (7, false) ∷ (8, false) ∷ (9, false) ∷ only_if true l)
   behind t f g h r = let z : 0 + (0 + (0 + (0 + holding l))) ≡ holding l = omega arith in rw (always l, t, f, g, h, z) r
 
+  by_tests : (o w b z : Bool) → o ≡ false → w ≡ true → b ≡ false → z ≡ true → Fits a ((10, false) ∷ (7, false) ∷ (8, false) ∷ (9, false) ∷ only_if true l)
+      → Fits a ((10, o) ∷ (only_if (not o) ((7, not w) ∷ (8, w && b) ∷ (9, (w && not b) && not z) ∷ []) ++ only_if (not o && ((w && not b) && z)) l))
+  by_tests true w b z p q r u t = clash p
+  by_tests false false b z p q r u t = clash (sym q)
+  by_tests false true true z p q r u t = clash r
+  by_tests false true false false p q r u t = clash (sym u)
+  by_tests false true false true p q r u t = t
+
   passed : ltb 65536 offer ≡ false → of38 s ≡ true → ltb 4 (get_or s 37 0 / 32) ≡ false → eqb (get_or s 37 0 % 4) 0 ≡ true
       → Fits a ((10, false) ∷ (7, false) ∷ (8, false) ∷ (9, false) ∷ only_if true l) → Fits a (check_rows s offer l)
-  passed o w b z t = rw (o, w, b, z) t
+  passed o w b z t = by_tests (ltb 65536 offer) (of38 s) (ltb 4 (get_or s 37 0 / 32)) (eqb (get_or s 37 0 % 4) 0) o w b z t
 
 -- a core that was read waits for 4 ticks at most
 not_busy : (s : List ℕ) → ltb 4 (get_or s 37 0 / 32) ≡ false → (core_of s).busy ≤ 4

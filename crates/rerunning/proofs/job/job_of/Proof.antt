@@ -5,28 +5,28 @@ use borrow.Author.Tests.{lt-ltb, le-ltb}
 use Rattle.rerunning.proofs.job.job_of.Statement.{statement}
 use Rattle.rerunning.proofs.job.job_of.Tie as tie
 
-returns : tie.Need-returns
+returns : tie.Need-returns-then-hex-schedule
 returns c =
     let n = c.before in
-    rw (← n.before.before.before.number.ensures, ← n.before.before.number2.ensures, ← n.before.number3.ensures, ← n.number4.ensures, c.if1.true)
+    rw (← n.number-hex.ensures, ← n.number-schedule.ensures, ← n.number-size.ensures, ← n.number-entered.ensures, c.if-hex-schedule.true)
 
-returns_2 : tie.Need-returns-2
+returns_2 : tie.Need-returns-then-input-entered
 returns_2 c =
     let n = c.before.before in
-    rw (← n.before.before.before.number.ensures, ← n.before.before.number2.ensures, ← n.before.number3.ensures, ← n.number4.ensures, c.before.if1.false, lt-ltb _ _ c.if2.true)
+    rw (← n.number-hex.ensures, ← n.number-schedule.ensures, ← n.number-size.ensures, ← n.number-entered.ensures, c.if-hex-schedule.false, lt-ltb _ _ c.if-input-entered.true)
 
-returns_3 : tie.Need-returns-3
+returns_3 : tie.Need-returns
 returns_3 c =
     let n = c.before.before.before.before in
     rw (
-      ← n.before.before.before.number.ensures,
-      ← n.before.before.number2.ensures,
-      ← n.before.number3.ensures,
-      ← n.number4.ensures,
-      c.before.before.before.if1.false,
-      le-ltb _ _ c.before.before.if2.false,
-      ← c.before.number5.ensures,
-      ← c.number6.ensures,
+      ← n.number-hex.ensures,
+      ← n.number-schedule.ensures,
+      ← n.number-size.ensures,
+      ← n.number-entered.ensures,
+      c.if-hex-schedule.false,
+      le-ltb _ _ c.if-input-entered.false,
+      ← c.number.ensures,
+      ← c.number-2.ensures,
     )
 
 pub job_of_spec : {M : Type 1} → statement M

@@ -11,7 +11,7 @@ returns c =
     let third = fourth.before.before.before.before in
     let second = third.before.before.before.before in
     let first = second.before.before.before.before in
-    both (both (both first.put_byte.ensures second.put-byte2.ensures) third.put-byte3.ensures) fourth.put-byte4.ensures
+    both (both (both first.put_byte-at.ensures second.put_byte-at-2.ensures) third.put_byte-at-3.ensures) fourth.put_byte.ensures
 
 pub put_number_spec : {M : Type 1} → statement M
 put_number_spec =

@@ -10,7 +10,7 @@ returns c =
     let line = c.before.before in
     let number = line.before.before.before.before in
     let text = number.before.before.before.before in
-    both (both text.put_byte.ensures number.put-byte2.ensures) line.put-number.ensures
+    both (both text.put_byte-at.ensures number.put_byte-at-2.ensures) line.put_number.ensures
 
 pub put_refusal_spec : {M : Type 1} → statement M
 put_refusal_spec =

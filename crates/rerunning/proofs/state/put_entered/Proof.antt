@@ -6,7 +6,7 @@ use Rattle.rerunning.proofs.state.put_entered.Statement.{statement}
 use Rattle.rerunning.proofs.state.put_entered.Tie as tie
 
 returns : tie.Need-returns
-returns c = let more = c.before.before in both more.before.before.before.before.put-text.ensures more.put-numbers.ensures
+returns c = let more = c.before.before in both more.put_text-at.ensures more.put_numbers.ensures
 
 pub put_entered_spec : {M : Type 1} → statement M
 put_entered_spec =

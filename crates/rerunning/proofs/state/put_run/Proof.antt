@@ -11,25 +11,25 @@ use Rattle.rerunning.proofs.state.put_run.Statement.{statement}
 use Rattle.rerunning.proofs.state.put_run.Tie as tie
 
 -- behind the copy of the data
-module _ (c : tie.After-copy2) where
+module _ (c : tie.After-copy-2) where
   abbrev first : tie.Start
   first = c.before.before.before.before.before.before.before.before.before.before.before
 
   abbrev m : List ℕ
   m = first.args.«data».now
 
-  «data» : take (length m) c.copy2.new.1.0 ≡ m
-  «data» = start m (replicate 65536 0) c.copy2.new.1.0 c.copy2.ensures
+  «data» : take (length m) c.copy-2.new.to ≡ m
+  «data» = start m (replicate 65536 0) c.copy-2.new.to c.copy-2.ensures
 
-  core : c.before.before.before.copy.new.1.0 ≡ first.args.core.now
-  core = whole first.args.core.now (replicate 38 0) c.before.before.before.copy.new.1.0 first.pre.0 c.before.before.before.copy.ensures
+  core : c.copy.new.to ≡ first.args.core.now
+  core = whole first.args.core.now (replicate 38 0) c.copy.new.to first.requires.0 c.copy.ensures
 
 returns : tie.Need-returns
 returns c =
     let p = c.before.before.before.before in
     let w = p.before.before.before.before.before in
     let a = (first w).args in
-    of_copies a.budget a.done a.core.now _ a.entered.now a.«data».now _ a.program.now a.list.now (core w) («data» w) p.put-after.ensures
+    of_copies a.budget a.done a.core.now _ a.entered.now a.«data».now _ a.program.now a.list.now (core w) («data» w) p.put_after.ensures
 
 pub put_run_spec : {M : Type 1} → statement M
 put_run_spec =

@@ -14,9 +14,9 @@ returns c =
     let core = entered.before.before.before.before in
     let many = core.before.before.before.before in
     let ticks = many.before.before.before.before in
-    let a = ticks.before.before.before.before.before.before.before.before.args in
+    let a = ticks.args in
     rw (many_more a.entered.now a.more.now)
-    (both (both (both (both (both ticks.put-number.ensures many.put-number2.ensures) core.put-text.ensures) entered.put-entered.ensures) bytes.put-text2.ensures) list.put-text3.ensures)
+    (both (both (both (both (both ticks.put_number-at.ensures many.put_number-at-2.ensures) core.put_text-at.ensures) entered.put_entered-at.ensures) bytes.put_text-at-2.ensures) list.put_text.ensures)
 
 pub put_state_spec : {M : Type 1} → statement M
 put_state_spec =
