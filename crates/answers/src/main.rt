@@ -39,24 +39,37 @@ fn answer<R: Read + Drop, W: Write + Drop>(
     program: &mut [u8],
     data: &mut [u8],
 ) -> io::Result<bool> {
-    let mut head = [0u8; 50];
-    if fill(input, output, &mut head)? < 50 {
+    let mut snapshot = [0u8; 38];
+    let mut numbers = [0u8; 12];
+    if fill(input, output, &mut snapshot)? < 38 || fill(input, output, &mut numbers)? < 12 {
         return Ok(false);
     }
-    let offer = number(&head, 38);
-    let size = number(&head, 42) as usize;
-    let room = number(&head, 46) as usize;
+    let offer = number(&numbers, 0);
+    let size = number(&numbers, 4) as usize;
+    let room = number(&numbers, 8) as usize;
     if size > program.len() || room > data.len() {
         output.write_all(&[255])?;
         return Ok(false);
     }
     let (program, data) = (&mut program[..size], &mut data[..room]);
-    if fill(input, output, program)? < size || fill(input, output, data)? < room {
+    tick(input, output, &mut snapshot, program, data, offer)
+}
+
+// The same of a case whose lengths are known.
+fn tick<R: Read + Drop, W: Write + Drop>(
+    input: &mut BufReader<R>,
+    output: &mut BufWriter<W>,
+    snapshot: &mut [u8],
+    program: &mut [u8],
+    data: &mut [u8],
+    offer: u32,
+) -> io::Result<bool> {
+    if fill(input, output, program)? < program.len() || fill(input, output, data)? < data.len() {
         return Ok(false);
     }
-    let answer = host::avr_tick(&mut head[..38], program, data, offer);
+    let answer = host::avr_tick(snapshot, program, data, offer);
     output.write_all(&[(answer % 256) as u8])?;
-    output.write_all(&head[..38])?;
+    output.write_all(snapshot)?;
     output.write_all(data)?;
     Ok(true)
 }
