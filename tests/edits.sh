@@ -39,7 +39,7 @@ refused_in_each() ( # CRATE EDIT LOG: a fact fails in each function's own proof:
     for function in $(sed -n '1s/.*Refused in \(.*\)\.$/\1/p' "$2" | tr -d ,); do
         proof=/proofs/$(echo "$function" | sed 's|::|/|g')/[A-Z][a-z]*.antt
         grep -q "^fn $1::$function: no proof: .*did not prove" "$3" ||
-            grep "$proof:[0-9:]* error: " "$3" | grep -q -v 'was not admitted\|has no field\|has no `\|is not in scope' || exit 1
+            grep "$proof:[0-9:]* error: " "$3" | grep -q -v 'was not checked\|has no field\|has no `\|is not in scope' || exit 1
     done
 )
 

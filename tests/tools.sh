@@ -4,7 +4,7 @@ made=$work/made
 unpack() { # SAMPLE: makes a repository of one crate from the sample's files, with the list of contracts that it has to hold
     rm -rf "$made"
     mkdir -p "$made/crates/sample/src" "$made/docs"
-    echo 'sample:' >"$made/crates.txt"
+    echo 'sample staticlib: other' >"$made/crates.txt"
     sed -n "s|^file: \(.*\)/.*|$made/crates/sample/src/\1|p" "$1" | xargs -r mkdir -p
     awk -v src="$made/crates/sample/src/" '/^file: / { out = src $2; next } out { print >out }' "$1"
     tools/contracts list "$made" >"$made/docs/CONTRACTS.md"
@@ -29,7 +29,7 @@ make_crates() ( # `top` uses `code`, `stated` and `proved`, says why it has `typ
     rm -rf "$made"
     mkdir -p "$made/crates/top/src" "$made/crates/top/proofs/next" "$made/crates/proved/proofs"
     cd "$made" || exit
-    printf '# a comment: none\ntop: code stated proved typed said # typed: a local has its type\nproved: # said\n' >crates.txt
+    printf '# a comment: none\ntop staticlib: code stated proved typed said # typed: a local has its type\nproved: # said\n' >crates.txt
     printf '// said::x\nuse code::Core;\nghost use Rattle.stated.specs.State.{reg};\n' >crates/top/src/lib.rt
     printf 'use Rattle.proved.proofs.Laws.{law}\n' >crates/top/proofs/next/Answers.antt
     printf 'pub mod Unused\npub mod End\n' >crates/top/proofs/Lib.antt

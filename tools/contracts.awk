@@ -226,7 +226,7 @@ bringing && /;$/ { bring(brought); bringing = 0 }
     name = $0; sub(/.*fn /, "", name); sub(/[(<].*/, "", name)
     inside = exported()
 }
-inside && /^ ensures ([A-Za-z0-9_-]+ )?\{ .* \}$/ { clause(); next }
+inside && /^ ensures ([A-Za-z0-9_-]+ )?\{ .* \}$/ && !/\} *(ensures|requires)/ { clause(); next }
 inside && mentions($0, "ensures") { fault("its clause is not the whole of a line, as in `ensures { .. }`"); broken = 1; next }
 inside && mentions($0, "requires") { fault("has a requires"); next }
 inside && mentions($0, "ghost") { fault("has a ghost value, which this tool does not read"); next }

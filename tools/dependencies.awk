@@ -25,8 +25,10 @@ function module_of(file) {
 FILENAME == "crates.txt" {
     reasons = $0; sub(/^[^#]*/, "", reasons)
     sub(/#.*/, "")
-    if (split($0, side, ":") < 2) next
-    crate = side[1]; gsub(/[ \t]/, "", crate)
+    if (split($0, side, ":") < 1) next
+    # the name, behind which a static library has a word of its own
+    crate = side[1]; sub(/^[ \t]+/, "", crate); sub(/[ \t].*/, "", crate)
+    if (crate == "") next
     crates[++count] = crate; needs[crate] = side[2]
     # a dependency that is needed unmentioned, as for a local's type, has its reason behind the line: '# DEP: reason'
     while (match(reasons, /[a-z0-9_]+:/)) {
