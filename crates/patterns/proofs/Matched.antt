@@ -10,7 +10,7 @@ use native.Mathlib.Nat.{div-div-eq-div-mul, pow-suc, div-one}
 use lib.Dec.{T, eqb}
 use Rattle.basis.proofs.Both.{both_left, both_right}
 use Rattle.instruction.proofs.Laws.{second_word_alone}
-use Rattle.instruction.proofs.Tests.{same, same→eq}
+use Rattle.instruction.proofs.Tests.{same→eq}
 use Rattle.instruction.specs.Decode.{decode_of}
 use Rattle.instruction.specs.Fields.{with_second}
 use Rattle.instruction.specs.declared.Instruction.{Instruction}

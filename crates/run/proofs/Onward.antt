@@ -1,6 +1,6 @@
 -- A tick that ran, and its waits at once: what remains is the rest of the same run.
 -- Assumes nothing.
-use Rattle.std.proofs.Common.{◌≡◌, ℕ, ◌+◌, ◌%◌, ◌<◌, ◌≤◌, Bool, false, ◌⊎◌, List, sym, refl, ap, ◌∙◌, inl, inr, arith, lt-ltb}
+use Rattle.std.proofs.Common.{◌≡◌, ℕ, ◌+◌, ◌<◌, ◌≤◌, Bool, false, List, refl, ap, ◌∙◌, arith, lt-ltb}
 use Rattle.instruction.specs.Decode.{decode_of}
 use Rattle.instruction.specs.declared.Instruction.{Instruction}
 use Rattle.cores.specs.declared.Core.{Core}
@@ -12,7 +12,6 @@ use Rattle.tick.specs.declared.Answer.TheVariants.{Ran}
 use Rattle.invariants.proofs.Waits.{instructions_wait_at_most_3}
 use Rattle.effects.specs.Parts.{stood, cored}
 use Rattle.effects.specs.declared.Step.{Step}
-use Rattle.run.specs.Run.{run_of}
 use Rattle.run.specs.Lent.{rest_of, RanGoesOn}
 use Rattle.run.proofs.Unroll.{unroll_on}
 use Rattle.run.proofs.Waits.{waits_out}

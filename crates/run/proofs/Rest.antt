@@ -14,7 +14,6 @@ use Rattle.forms.proofs.Fit.{fields_fit}
 use Rattle.memory.specs.Memory.{has_word_of}
 use Rattle.cores.specs.Flow.{two_at}
 use Rattle.cores.specs.State.{with_regs, with_pc, with_sp, with_busy, with_inhibit, with_service, with_chip}
-use Rattle.execute.specs.Needs.{Needs}
 use Rattle.execute.specs.Execute.{done_of}
 use Rattle.execute.specs.declared.Done.TheVariants as done
 use Rattle.registers.proofs.Found.{found, found_past, NoneOf}

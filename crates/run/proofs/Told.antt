@@ -1,6 +1,6 @@
 -- A tick that carries an instruction out: nothing is due, its words are there, and no rule refuses it.
 -- Assumes nothing.
-use Rattle.std.proofs.Common.{◌≡◌, ℕ, ◌+◌, ◌<◌, Bool, true, false, not, ◌&&◌, List, sym, refl, ap, ◌∙◌, arith, ne_eqb}
+use Rattle.std.proofs.Common.{◌≡◌, ℕ, ◌+◌, ◌<◌, Bool, true, false, not, ◌&&◌, List, refl, arith, ne_eqb}
 use Rattle.basis.specs.Pick.{pick}
 use Rattle.basis.specs.Bit.{bit}
 use Rattle.basis.proofs.Choice.{clash}

@@ -1,6 +1,6 @@
 -- What each group of instructions needs, where `ready` found it to be there.
 -- Assumes nothing.
-use Rattle.std.proofs.Common.{◌≡◌, ℕ, ◌+◌, ◌<◌, ◌≤◌, Bool, true, false, ◌&&◌, eqb, ltb, leb, List, length, sym, refl, ap, ◌∙◌, arith, lt-ltb, ne_eqb}
+use Rattle.std.proofs.Common.{◌≡◌, ℕ, ◌+◌, ◌<◌, Bool, true, false, ◌&&◌, eqb, ltb, leb, List, length, sym, refl, ap, ◌∙◌, arith, lt-ltb}
 use Rattle.basis.specs.Pick.{pick}
 use Rattle.basis.specs.Bit.{one}
 use Rattle.basis.proofs.Bits.{one_le}

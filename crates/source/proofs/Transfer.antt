@@ -17,7 +17,7 @@ use Rattle.cores.specs.State.{Sound, reg, word, with_reg, with_word, with_busy, 
 use Rattle.cores.specs.Transfer.{reach_of, data_of, set_data_of, in_of, pointed_of, word_if, ld_of, st_of, lds_of, lpm_of, pop_of, push_of, sts_of}
 use Rattle.cores.specs.Flow.{over_second}
 use Rattle.cores.proofs.Space.{store_regs}
-use Rattle.source.specs.Monad.{Self, Outcome, ok, panic, Rust, ◌>>=◌, ◌>>◌, return, with_core}
+use Rattle.source.specs.Monad.{Self, Outcome, ok, panic, Rust, ◌>>◌, return, with_core}
 use Rattle.source.specs.Integers.{pc+=}
 use Rattle.source.specs.Registers.{get_ps, progmem_read}
 use Rattle.source.specs.Transfer.{in_, ld, st, ldi, lds, lpm, mov, movw, push, pop, sts}

@@ -1,7 +1,7 @@
 -- The Rust's integers, in a debug build: u8, u16 and u32 as numbers, i8, i16 and i32 as whole numbers. What overflows panics, and a shift panics by its
 -- type's width and drops the bits that leave it. `u16::from`, `i16::from` and a cast to a wider type change no number and are left out.
 use Rattle.std.specs.Prelude.{Bool, true, false, not, ℕ, ◌+◌, ◌*◌, ◌/◌, ◌%◌, ◌^◌, ◌-◌, eqb, ltb, leb, ℤ, pos, negsuc, ◌*ℤ◌}
-use Rattle.source.specs.Monad.{Rust, ◌>>=◌, ◌>>◌, if◌then◌else◌, checked, self_pc, self_sp, pc=, sp=}
+use Rattle.source.specs.Monad.{Rust, ◌>>=◌, if◌then◌else◌, checked, self_pc, self_sp, pc=, sp=}
 
 -- ---- unsigned
 infixl 60 ◌+u16◌

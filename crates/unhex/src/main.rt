@@ -5,8 +5,8 @@ use std::io::{self, Read};
 
 // The longest program that `trace` takes.
 const IMAGE: usize = 49152;
-// The longest file. A line for each byte of an image, with CR LF, takes 737,293 bytes.
-const TEXT: usize = 1048576;
+// A byte more than the longest file. A line for each byte of an image, with CR LF, takes 737,293 bytes.
+const TEXT: usize = 1048576 + 1;
 
 fn say_refused(rt: &impl Print, refusal: u8, line: usize) -> io::Result<()> {
     println!(rt; "refused-{refusal} at line {line}")?;
@@ -19,7 +19,7 @@ fn say_refused(rt: &impl Print, refusal: u8, line: usize) -> io::Result<()> {
 }
 
 fn convert(rt: &impl Print, text: &[u8], image: &mut [u8]) -> io::Result<()> {
-    if text.len() > TEXT {
+    if text.len() == TEXT {
         return println!(rt; "too long: a file has at most 1,048,576 bytes");
     }
     let read = intel_hex::read(text, image);
@@ -32,7 +32,7 @@ fn convert(rt: &impl Print, text: &[u8], image: &mut [u8]) -> io::Result<()> {
 
 fn main(rt: HostRuntime) -> io::Result<()> {
     let mut text = Vec::new(rt.alloc());
-    rt.reader().take(TEXT as u64 + 1).read_to_end(&mut text)?;
+    rt.reader().take(TEXT as u64).read_to_end(&mut text)?;
     let mut image = vec![in rt.alloc(); 0u8; IMAGE]?;
     convert(&rt, &text, &mut image)
 }

@@ -1,7 +1,6 @@
 -- `row_at`: the tests one after the other.
 -- Assumes nothing.
 use Rattle.std.proofs.Common.{◌≡◌, ◌+◌, true, false, sym, ◌∙◌, rules}
-use borrow.Author.Tests.{not-true, not-false}
 use Rattle.memory.specs.Memory.{has_word_of}
 use Rattle.listing.proofs.row.row_at.Statement.{statement}
 use Rattle.listing.proofs.row.row_at.Tie as tie

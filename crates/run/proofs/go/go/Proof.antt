@@ -1,6 +1,6 @@
 -- `go`: each turn of the loop is a tick that ran and its waits, so that what remains stays the rest of the same run.
 -- Assumes nothing.
-use Rattle.std.proofs.Common.{◌≡◌, ℕ, ◌+◌, ◌-◌, ◌%◌, ◌<◌, ◌≤◌, Bool, false, ◌⊎◌, List, length, sym, refl, ap, ◌∙◌, inl, inr, arith, rules}
+use Rattle.std.proofs.Common.{◌≡◌, ℕ, ◌+◌, ◌-◌, ◌<◌, ◌≤◌, ◌⊎◌, List, length, refl, ap, ◌∙◌, inl, inr, arith, rules}
 use Rattle.forms.specs.Instructions.{instruction_of}
 use Rattle.memory.specs.Memory.{program_word_of}
 use Rattle.cores.specs.declared.Core.{Core}

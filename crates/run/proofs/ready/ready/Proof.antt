@@ -1,9 +1,9 @@
 -- `ready`: in each arm what its calls found to be there is what the instruction needs; `rest` has the others.
 -- Assumes nothing.
-use Rattle.std.proofs.Common.{◌≡◌, ◌+◌, Bool, true, false, length, sym, refl, ◌∙◌, add-zero, rules}
+use Rattle.std.proofs.Common.{◌+◌, true, false, length, sym, refl, ◌∙◌, add-zero, rules}
 use Rattle.basis.specs.Bit.{up}
 use Rattle.basis.proofs.Choice.{clash}
-use Rattle.instruction.specs.Decode.{decode_of, d5, r5, q6, A5, A6, b3, k12, k22}
+use Rattle.instruction.specs.Decode.{decode_of, d5, q6, A5, A6, b3, k12, k22}
 use Rattle.instruction.specs.declared.Instruction.TheVariants.{CALL, ICALL, RCALL, RET, RETI, SBIC, SBIS, IN, LDX, LDXinc, LDXdec, LDYinc, LDYdec, LDZinc, LDZdec, LDDY, LDDZ, LDS, LPM, LPMZ, LPMZinc, OUT, POP, PUSH, STX, STXdec, STXinc, STYdec, STYinc, STZdec, STZinc, STDY, STDZ, STS, CBI, SBI}
 use Rattle.memory.specs.Memory.{word_of, has_of, program_word_of}
 use Rattle.cores.specs.State.{with_regs, with_pc, with_sp, with_busy, with_inhibit, with_service, with_chip}

@@ -1,6 +1,6 @@
 -- `tells`: where it names a form, nothing is due, both words are there and `ready` found what the instruction needs.
 -- Assumes nothing.
-use Rattle.std.proofs.Common.{◌≡◌, ℕ, ◌+◌, ◌<◌, Bool, true, false, not, ◌&&◌, ◌||◌, leb, sym, refl, ap, ◌∙◌, arith, rules, leb-false}
+use Rattle.std.proofs.Common.{◌≡◌, ◌+◌, ◌<◌, Bool, true, false, not, ◌&&◌, ◌||◌, leb, sym, refl, ap, ◌∙◌, arith, rules, leb-false}
 use Rattle.basis.specs.Pick.{pick}
 use Rattle.basis.specs.Bit.{bit}
 use Rattle.basis.proofs.Choice.{clash}

@@ -5,7 +5,7 @@ use mathlib.Core.Bool.{true, false}
 use lib.ListN.{length}
 use Prim.Native.Nat.{◌/◌, ◌%◌}
 use borrow.Author.Rules.{rules}
-use borrow.Author.Tests.{eq-eqb, ne_eqb, lt-ltb, le-ltb, not-true, not-false}
+use borrow.Author.Tests.{eq-eqb, ne_eqb, lt-ltb, le-ltb}
 use Rattle.schedule.specs.Schedule.{records_of, rising}
 use Rattle.schedule.proofs.list.refused.Statement.{statement}
 use Rattle.schedule.proofs.list.refused.Tie as tie
