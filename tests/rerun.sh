@@ -201,7 +201,7 @@ make_gate() { # a repository whose gate asks only stand-ins: RT_SAYS and TESTS_S
     mkdir -p "$work/gated/.ci" "$work/gated/tools" "$work/gated/tests" "$work/gated/bin"
     cp .ci/run "$work/gated/.ci" && cp tools/commit "$work/gated/tools"
     for tool in contracts claims dependencies sources forms cycles; do printf '#!/bin/sh\nexit ${%s:-0}\n' "$(echo $tool | tr a-z A-Z)" >"$work/gated/tools/$tool"; done
-    printf '#!/bin/sh\n[ "$1" = fmt ] || echo "$RT_SAYS"\n' >"$work/gated/bin/rt"
+    printf '#!/bin/sh\necho "$RT_SAYS"\n' >"$work/gated/bin/rt"
     printf '#!/bin/sh\necho "$TESTS_SAY"\n' >"$work/gated/tests/run"
     chmod +x "$work"/gated/*/*
 }
@@ -217,6 +217,8 @@ keeps_the_gate() {
     make_gate
     gate_says 0 '7 passed, 0 failed' '7 passed, 0 failed' RT_SAYS='4 passed, 0 failed' TESTS_SAY='3 passed, 0 failed' || return 1
     gate_says 1 '6 passed, 1 failed' '6 passed, 1 failed' RT_SAYS='4 passed, 0 failed' TESTS_SAY='2 passed, 1 failed' || return 1
+    gate_says 1 '7 passed, 2 failed' '7 passed, 2 failed' TESTS_SAY='3 passed, 0 failed' RT_SAYS='rt: ok; must-fail edits: 5 refused, 1 bad; every proof was done in this run
+4 passed, 0 failed' || return 1
     gate_says 3 '' 'stopped before its end' FORMS=3
 }
 
