@@ -18,7 +18,7 @@ use Rattle.memory.specs.Memory.{bit_set_of}
 use Rattle.rule.specs.Rule.{bset_inhibits}
 use Rattle.cores.specs.State.{Sound, reg, with_reg, with_inhibit, flag}
 use Rattle.cores.specs.Bits.{asr_of, bclr_of, bld_of, bset_of, bst_of, lsr_of, ror_of, swap_of}
-use Rattle.source.specs.Monad.{Self, ok, panic, with_core, with_ds, if◌then◌else◌}
+use Rattle.source.specs.Monad.{Self, ok, panic, with_core, with_ds, if'◌then◌else◌}
 use Rattle.source.specs.Integers.{u8_as_i8, signed_as_u8, halved}
 use Rattle.source.specs.Registers.{ds_read, ds_write, ds_set_bit}
 use Rattle.source.specs.Bits.{asr, bclr, bld, bset, bst, cbi, lsr, ror, sbi, swap}
@@ -30,7 +30,7 @@ asr_value : (a : ℕ) → a < 256 → signed_as_u8 (halved (u8_as_i8 a) 1) ≡ a
 asr_value a h = agreed 256 1 (λ a _. signed_as_u8 (halved (u8_as_i8 a) 1)) (λ a _. a / 2 + one (leb 128 a) * 128) tt a 0 h (omega arith)
 
 -- `R |= 0x80` where C is set
-ror_value : (c : Bool) (a : ℕ) → a < 256 → (if c then bit_or (a / 2) 128 else a / 2) ≡ a / 2 + one c * 128
+ror_value : (c : Bool) (a : ℕ) → a < 256 → (if' c then bit_or (a / 2) 128 else a / 2) ≡ a / 2 + one c * 128
 ror_value true a h = or_shifted_r 1 7 (a / 2) (omega arith) ∙ omega arith
 ror_value false a h = omega arith
 

@@ -18,7 +18,7 @@ use Rattle.cores.specs.State.{Sound, reg, with_pc, with_busy}
 use Rattle.cores.specs.Flow.{two_at, skipped, data_bit_is}
 use Rattle.execute.specs.Needs.{skip_needs}
 use Rattle.source_decode.specs.RustDecode.{rust_decode}
-use Rattle.source.specs.Monad.{Self, Outcome, panic, Rust, ◌>>=◌, ◌>>◌, if◌then◌else◌, when, self_pc, busy=}
+use Rattle.source.specs.Monad.{Self, Outcome, panic, Rust, ◌>>=◌, ◌>>◌, if'◌then◌else◌, when, self_pc, busy=}
 use Rattle.source.specs.Integers.{◌+u16◌, ◌xor◌, pc+=}
 use Rattle.source.specs.Registers.{get_progmem, get_progmem_unused}
 use Rattle.source.specs.CallJmpLdsSts.{CALL|JMP|LDS|STS}
@@ -36,7 +36,7 @@ skip = do
   opcode ← get_progmem (← self_pc)
   prefetch ← get_progmem_unused (← (← self_pc) +u16 1)
   let op = rust_decode opcode prefetch
-  if CALL|JMP|LDS|STS op
+  if' CALL|JMP|LDS|STS op
       then (do
         pc+= 2
         busy= 2)

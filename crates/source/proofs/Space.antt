@@ -14,7 +14,7 @@ use Rattle.basis.proofs.Choice.{either}
 use Rattle.cores.specs.declared.Core.{Core}
 use Rattle.cores.specs.State.{Out, reg, with_sp}
 use Rattle.cores.specs.Transfer.{reach_of, data_of, set_data_of}
-use Rattle.source.specs.Monad.{Self, ok, panic, ◌>>=◌, if◌then◌else◌}
+use Rattle.source.specs.Monad.{Self, ok, panic, ◌>>=◌, if'◌then◌else◌}
 use Rattle.source.specs.Integers.{as_u8}
 use Rattle.source.specs.Registers.{ds_read, ds_write, get_register, set_register, get_io_register, set_io_register, get_data_space, set_data_space}
 use Rattle.source.proofs.Steps.{with_out, after_pick}
@@ -81,23 +81,23 @@ narrow : (at : ℕ) → at < 64 → at % 256 ≡ at
 narrow at h = omega arith
 
 load_by_road : (s : Self) (at d : ℕ) (t : Bool) → ltb at 64 ≡ t → s.core.sp < 65536
-    → (if t then (do set_register d (← get_io_register (as_u8 at))) else (do set_register d (← get_data_space at))) s
+    → (if' t then (do set_register d (← get_io_register (as_u8 at))) else (do set_register d (← get_data_space at))) s
     ≡ pick (reach_of at (length s.ds)) (set_register d (data_of s.core at s.ds) s) panic
 load_by_road s at d true p l = let h = ltb-true at 64 p in rw (narrow at h, io_load, after_pick)
 load_by_road s at d false p l = rw (load_ok, after_pick)
 
 pub load_any : (s : Self) (at d : ℕ) → s.core.sp < 65536
-    → (if ltb at 64 then (do set_register d (← get_io_register (as_u8 at))) else (do set_register d (← get_data_space at))) s
+    → (if' ltb at 64 then (do set_register d (← get_io_register (as_u8 at))) else (do set_register d (← get_data_space at))) s
     ≡ pick (reach_of at (length s.ds)) (set_register d (data_of s.core at s.ds) s) panic
 load_any s at d l = load_by_road s at d (ltb at 64) refl l
 
 store_by_road : (s : Self) (at r : ℕ) (t : Bool) → ltb at 64 ≡ t → length s.core.regs ≡ 32 → reg s.core r < 256 → s.core.sp < 65536 → r < 32
-    → (if t then (do set_io_register (as_u8 at) (← get_register r)) else (do set_data_space at (← get_register r))) s
+    → (if' t then (do set_io_register (as_u8 at) (← get_register r)) else (do set_data_space at (← get_register r))) s
     ≡ pick (reach_of at (length s.ds)) (ok tt (with_out s (set_data_of s.core at (reg s.core r) s.ds))) panic
 store_by_road s at r true p e b h hr = let g = ltb-true at 64 p in rw (narrow at g, get_ok s r, io_store)
 store_by_road s at r false p e b h hr = rw (get_ok s r, store_ok)
 
 pub store_any : (s : Self) (at r : ℕ) → length s.core.regs ≡ 32 → reg s.core r < 256 → s.core.sp < 65536 → r < 32
-    → (if ltb at 64 then (do set_io_register (as_u8 at) (← get_register r)) else (do set_data_space at (← get_register r))) s
+    → (if' ltb at 64 then (do set_io_register (as_u8 at) (← get_register r)) else (do set_data_space at (← get_register r))) s
     ≡ pick (reach_of at (length s.ds)) (ok tt (with_out s (set_data_of s.core at (reg s.core r) s.ds))) panic
 store_any s at r e b h hr = store_by_road s at r (ltb at 64) refl e b h hr

@@ -11,7 +11,7 @@ use Rattle.basis.specs.Bit.{one}
 use Rattle.bits.specs.Bits.{carry_out}
 use Rattle.bits.proofs.Tops.{clear}
 use Rattle.bits.proofs.Carries.{half_add}
-use Rattle.source.specs.Monad.{if◌then◌else◌}
+use Rattle.source.specs.Monad.{if'◌then◌else◌}
 use Rattle.source.specs.Integers.{u8::overflowing_add, u8::overflowing_sub, view_bits}
 
 -- ---- bit 7 of a word, and bit 15, clear
@@ -31,10 +31,10 @@ half_plain a b = rw (add-zero (a + b)) at (half_add false a b)
 
 -- ---- a sum or a difference with C, made in two steps
 abbrev step_add : Bool → ℕ → ℕ × Bool
-step_add c r = if c then u8::overflowing_add r 1 else (r, false)
+step_add c r = if' c then u8::overflowing_add r 1 else (r, false)
 
 abbrev step_sub : Bool → ℕ → ℕ × Bool
-step_sub c r = if c then u8::overflowing_sub r 1 else (r, false)
+step_sub c r = if' c then u8::overflowing_sub r 1 else (r, false)
 
 pub value_add : (c : Bool) (a b : ℕ) → (step_add c ((a + b) % 256)).0 ≡ (a + b + one c) % 256
 value_add true a b = omega arith

@@ -2,7 +2,7 @@
 -- `&`, `|` and `!` of two bools are `&&`, `||` and `not`: both sides are values here.
 use Rattle.std.specs.Prelude.{true, false, not, ◌&&◌, ◌||◌, ℕ, eqb, pos}
 use Rattle.std.specs.Int.Bits.{bit_and, bit_or, bit_xor}
-use Rattle.source.specs.Monad.{Rust, ◌>>=◌, ◌>>◌, if◌then◌else◌, busy=}
+use Rattle.source.specs.Monad.{Rust, ◌>>=◌, ◌>>◌, if'◌then◌else◌, busy=}
 use Rattle.source.specs.Integers.{◌*u16◌, ◌<<u16◌, u8::not, u8::overflowing_add, u8::overflowing_sub, u16::overflowing_add, u16::overflowing_sub, view_bits, ◌xor◌, u8_as_i8, signed_as_u16, ◌*i16◌, ◌<<i16◌, is_zero}
 use Rattle.source.specs.Registers.{get_register, set_register, get_register_word, set_register_word, BitSREG::C, BitSREG::Z, BitSREG::N, BitSREG::V, BitSREG::S, BitSREG::H, get_sreg_bit, set_sreg_bit}
 
@@ -12,7 +12,7 @@ adc d r = do
   Rr ← get_register r
   C ← get_sreg_bit BitSREG::C
   let (R, C1) = u8::overflowing_add Rd Rr
-  let (R, C2) = if C then u8::overflowing_add R 1 else (R, false)
+  let (R, C2) = if' C then u8::overflowing_add R 1 else (R, false)
   let C = C1 || C2
   set_register d R
   let bRd = view_bits Rd
@@ -283,7 +283,7 @@ sbc d r = do
   Rr ← get_register r
   C ← get_sreg_bit BitSREG::C
   let (R, C1) = u8::overflowing_sub Rd Rr
-  let (R, C2) = if C then u8::overflowing_sub R 1 else (R, false)
+  let (R, C2) = if' C then u8::overflowing_sub R 1 else (R, false)
   let C = C1 || C2
   set_register d R
   let bRd = view_bits Rd
@@ -306,7 +306,7 @@ sbci d val = do
   Rd ← get_register d
   C ← get_sreg_bit BitSREG::C
   let (R, C1) = u8::overflowing_sub Rd val
-  let (R, C2) = if C then u8::overflowing_sub R 1 else (R, false)
+  let (R, C2) = if' C then u8::overflowing_sub R 1 else (R, false)
   let C = C1 || C2
   set_register d R
   let bRd = view_bits Rd

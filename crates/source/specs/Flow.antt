@@ -2,7 +2,7 @@
 use Rattle.std.specs.Prelude.{Bool, true, false, not, ◌&&◌, ◌||◌, ℕ, eqb, pos, ◌+ℤ◌}
 use Rattle.std.specs.Int.Bits.{bit_and, bit_or}
 use Rattle.source_decode.specs.RustDecode.{rust_decode}
-use Rattle.source.specs.Monad.{Rust, ◌>>=◌, ◌>>◌, if◌then◌else◌, when, self_pc, self_sp, pc=, busy=, interupt_inhibit=, lvl0ex=}
+use Rattle.source.specs.Monad.{Rust, ◌>>=◌, ◌>>◌, if'◌then◌else◌, when, self_pc, self_sp, pc=, busy=, interupt_inhibit=, lvl0ex=}
 use Rattle.source.specs.Integers.{◌+u16◌, ◌<<u8◌, ◌<<u16◌, ◌>>u16◌, u8::overflowing_sub, u16::overflowing_add, as_u8, as_u16, view_bits, ◌xor◌, pc+=, sp+=, sp-=, u8_as_i8, signed_as_u16}
 use Rattle.source.specs.CallJmpLdsSts.{CALL|JMP|LDS|STS}
 use Rattle.source.specs.Registers.{ds_read, ds_write, get_register, get_register_word, get_io_register, get_progmem, get_progmem_unused, BitSREG::C, BitSREG::Z, BitSREG::N, BitSREG::V, BitSREG::S, BitSREG::H, BitSREG::from, get_sreg_bit, set_sreg_bit}
@@ -53,7 +53,7 @@ cpc d r = do
   C ← get_sreg_bit BitSREG::C
   Z ← get_sreg_bit BitSREG::Z
   let (R, C1) = u8::overflowing_sub Rd Rr
-  let (R, C2) = if C then u8::overflowing_sub R 1 else (R, false)
+  let (R, C2) = if' C then u8::overflowing_sub R 1 else (R, false)
   let C = C1 || C2
   let bRd = view_bits Rd
   let bRr = view_bits Rr
@@ -97,7 +97,7 @@ cpse d r = do
     opcode ← get_progmem (← self_pc)
     prefetch ← get_progmem_unused (← (← self_pc) +u16 1)
     let op = rust_decode opcode prefetch
-    if CALL|JMP|LDS|STS op
+    if' CALL|JMP|LDS|STS op
         then (do
           pc+= 2  -- 833
           busy= 2)
@@ -171,7 +171,7 @@ sbix A b set = do
     opcode ← get_progmem (← self_pc)
     prefetch ← get_progmem_unused (← (← self_pc) +u16 1)
     let op = rust_decode opcode prefetch
-    if CALL|JMP|LDS|STS op
+    if' CALL|JMP|LDS|STS op
         then (do
           pc+= 2  -- 926
           busy= 2)
@@ -186,7 +186,7 @@ sbrx r b set = do
     opcode ← get_progmem (← self_pc)
     prefetch ← get_progmem_unused (← (← self_pc) +u16 1)
     let op = rust_decode opcode prefetch
-    if CALL|JMP|LDS|STS op
+    if' CALL|JMP|LDS|STS op
         then (do
           pc+= 2  -- 949
           busy= 2)

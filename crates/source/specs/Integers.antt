@@ -1,7 +1,7 @@
 -- The Rust's integers, in a debug build: u8, u16 and u32 as numbers, i8, i16 and i32 as whole numbers. What overflows panics, and a shift panics by its
 -- type's width and drops the bits that leave it. `u16::from`, `i16::from` and a cast to a wider type change no number and are left out.
 use Rattle.std.specs.Prelude.{Bool, true, false, not, ℕ, ◌+◌, ◌*◌, ◌/◌, ◌%◌, ◌^◌, ◌-◌, eqb, ltb, leb, ℤ, pos, negsuc, ◌*ℤ◌}
-use Rattle.source.specs.Monad.{Rust, ◌>>=◌, if◌then◌else◌, checked, self_pc, self_sp, pc=, sp=}
+use Rattle.source.specs.Monad.{Rust, ◌>>=◌, if'◌then◌else◌, checked, self_pc, self_sp, pc=, sp=}
 
 -- ---- unsigned
 infixl 60 ◌+u16◌
@@ -106,10 +106,10 @@ sp-= n = do
 
 -- ---- signed: the bits of an unsigned number read as a signed one, and back
 abbrev pub u8_as_i8 : ℕ → ℤ
-u8_as_i8 x = if ltb x 128 then pos x else negsuc (255 - x)
+u8_as_i8 x = if' ltb x 128 then pos x else negsuc (255 - x)
 
 abbrev pub u16_as_i16 : ℕ → ℤ
-u16_as_i16 x = if ltb x 32768 then pos x else negsuc (65535 - x)
+u16_as_i16 x = if' ltb x 32768 then pos x else negsuc (65535 - x)
 
 -- i8, i16 and i32 alike
 abbrev pub signed_as_u8 : ℤ → ℕ

@@ -36,13 +36,13 @@ abbrev pub ◌>>◌ : {A B : Type 0} → Rust A → Rust B → Rust B
 abbrev pub return : {A : Type 0} → A → Rust A
 return a = λ s. ok a s
 
-infix 5 if◌then◌else◌
-abbrev pub if◌then◌else◌ {ℓ} : {A : Type ℓ} → Bool → A → A → A
-if◌then◌else◌ b x y = pick b x y
+infix 5 if'◌then◌else◌
+abbrev pub if'◌then◌else◌ {ℓ} : {A : Type ℓ} → Bool → A → A → A
+if'◌then◌else◌ b x y = pick b x y
 
 -- an `if` with no `else`
 abbrev pub when : Bool → Rust Unit → Rust Unit
-when b m = if b then m else return tt
+when b m = if' b then m else return tt
 
 -- a where b holds, else a panic
 abbrev pub checked : {A : Type 0} → Bool → A → Rust A

@@ -6,7 +6,7 @@ use Rattle.std.specs.Prelude.{Bool, not, ℕ, ◌+◌, ◌*◌, ◌^◌, eqb, lt
 use Rattle.std.specs.Int.Bits.{bit_and, bit_or}
 use Rattle.basis.specs.Pick.{pick}
 use Rattle.cores.specs.State.{with_reg}
-use Rattle.source.specs.Monad.{ok, panic, Rust, ◌>>=◌, ◌>>◌, return, if◌then◌else◌, checked, self_sreg, self_pc, self_sp, with_core, with_ds, sreg=, sp=}
+use Rattle.source.specs.Monad.{ok, panic, Rust, ◌>>=◌, ◌>>◌, return, if'◌then◌else◌, checked, self_sreg, self_pc, self_sp, with_core, with_ds, sreg=, sp=}
 use Rattle.source.specs.Integers.{◌<<u8◌, ◌<<u16◌, ◌>>u16◌, u8::not, u16::from_le_bytes, u16::to_le_bytes, as_u8}
 
 -- ---- the two memories: 01's flat slices, outside which a read or a write panics
@@ -34,7 +34,7 @@ read_word read address = do
 unfoldable pub ds_set_bit : ℕ → ℕ → Bool → Rust Unit
 ds_set_bit address bit state = do
   val ← ds_read address
-  if state
+  if' state
       then (do ds_write address (bit_or val (← 1 <<u8 bit)))
       else (do ds_write address (bit_and val (u8::not (← 1 <<u8 bit))))
 
@@ -60,30 +60,30 @@ set_register_word register-low value = do
 -- ---- I/O registers and data space
 unfoldable pub get_io_register : ℕ → Rust ℕ  -- 94
 get_io_register register =
-    if eqb register 0x3F then self_sreg
-    else (if eqb register 0x3E then (do return (as_u8 (← (← self_sp) >>u16 8)))
-    else (if eqb register 0x3D then (do return (as_u8 (bit_and (← self_sp) 0xFF)))
+    if' eqb register 0x3F then self_sreg
+    else (if' eqb register 0x3E then (do return (as_u8 (← (← self_sp) >>u16 8)))
+    else (if' eqb register 0x3D then (do return (as_u8 (bit_and (← self_sp) 0xFF)))
     else ds_read register))
 
 unfoldable pub set_io_register : ℕ → ℕ → Rust Unit  -- 103
 set_io_register register value =
-    if eqb register 0x3F then sreg= value
-    else (if eqb register 0x3E then (do sp= (bit_or (bit_and (← self_sp) 0x00FF) (← value <<u16 8)))
-    else (if eqb register 0x3D then (do sp= (bit_or (bit_and (← self_sp) 0xFF00) value))
+    if' eqb register 0x3F then sreg= value
+    else (if' eqb register 0x3E then (do sp= (bit_or (bit_and (← self_sp) 0x00FF) (← value <<u16 8)))
+    else (if' eqb register 0x3D then (do sp= (bit_or (bit_and (← self_sp) 0xFF00) value))
     else ds_write register value))
 
 unfoldable pub get_data_space : ℕ → Rust ℕ  -- 114
 get_data_space address =
-    if eqb address 0x0000003F then self_sreg
-    else (if eqb address 0x0000003E then (do return (as_u8 (← (← self_sp) >>u16 8)))
-    else (if eqb address 0x0000003D then (do return (as_u8 (bit_and (← self_sp) 0xFF)))
+    if' eqb address 0x0000003F then self_sreg
+    else (if' eqb address 0x0000003E then (do return (as_u8 (← (← self_sp) >>u16 8)))
+    else (if' eqb address 0x0000003D then (do return (as_u8 (bit_and (← self_sp) 0xFF)))
     else ds_read address))
 
 unfoldable pub set_data_space : ℕ → ℕ → Rust Unit  -- 128
 set_data_space address value =
-    if eqb address 0x0000003F then sreg= value
-    else (if eqb address 0x0000003E then (do sp= (bit_or (bit_and (← self_sp) 0x00FF) (← value <<u16 8)))
-    else (if eqb address 0x0000003D then (do sp= (bit_or (bit_and (← self_sp) 0xFF00) value))
+    if' eqb address 0x0000003F then sreg= value
+    else (if' eqb address 0x0000003E then (do sp= (bit_or (bit_and (← self_sp) 0x00FF) (← value <<u16 8)))
+    else (if' eqb address 0x0000003D then (do sp= (bit_or (bit_and (← self_sp) 0xFF00) value))
     else ds_write address value))
 
 -- ---- program space
@@ -94,7 +94,7 @@ get_ps address = progmem_read address
 unfoldable pub get_progmem : ℕ → Rust ℕ
 get_progmem pc = do
   let address = pc * 2 ^ 1
-  if eqb (← self_pc) 65535 then read_word progmem_read_or_0 address else read_word progmem_read address
+  if' eqb (← self_pc) 65535 then read_word progmem_read_or_0 address else read_word progmem_read address
 
 -- 148 of "a prefetched word that the instruction doesn't use", which reads 0 outside the program
 unfoldable pub get_progmem_unused : ℕ → Rust ℕ
@@ -138,6 +138,6 @@ get_sreg_bit bit = do
 
 unfoldable pub set_sreg_bit : ℕ → Bool → Rust Unit  -- 159
 set_sreg_bit bit set =
-    if set
+    if' set
     then (do sreg= (bit_or (← self_sreg) (← 1 <<u8 bit)))
     else (do sreg= (bit_and (← self_sreg) (u8::not (← 1 <<u8 bit))))

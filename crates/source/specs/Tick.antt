@@ -6,7 +6,7 @@ use Rattle.tick.specs.declared.Offer.TheVariants.{Vector, Nothing}
 use Rattle.instruction.specs.declared.Instruction.{Instruction}
 use Rattle.instruction.specs.declared.Instruction.TheVariants.{ADC, ADD, ADIW, AND, ANDI, ASR, BCLR, BLD, BRBC, BRBS, BREAK, BSET, BST, CALL, CBI, COM, CP, CPC, CPI, CPSE, DEC, EOR, FMUL, FMULS, FMULSU, ICALL, IJMP, IN, INC, JMP, LDX, LDXinc, LDXdec, LDYinc, LDYdec, LDZinc, LDZdec, LDDY, LDDZ, LDI, LDS, LPM, LPMZ, LPMZinc, LSL, LSR, MOV, MOVW, MUL, MULS, MULSU, NEG, NOP, OR, ORI, OUT, POP, PUSH, RCALL, RET, RETI, RJMP, ROR, SBC, SBCI, SBI, SBIC, SBIS, SBIW, SBRC, SBRS, SLEEP, STX, STXdec, STXinc, STYdec, STYinc, STZdec, STZinc, STDY, STDZ, STS, SUB, SUBI, SWAP, WDR, UNDEF}
 use Rattle.source_decode.specs.RustDecode.{rust_decode}
-use Rattle.source.specs.Monad.{Rust, ◌>>=◌, ◌>>◌, return, if◌then◌else◌, when, self_pc, self_sp, self_busy, self_interupt_inhibit, self_lvl0ex, self_pending, pc=, busy=, interupt_inhibit=, lvl0ex=}
+use Rattle.source.specs.Monad.{Rust, ◌>>=◌, ◌>>◌, return, if'◌then◌else◌, when, self_pc, self_sp, self_busy, self_interupt_inhibit, self_lvl0ex, self_pending, pc=, busy=, interupt_inhibit=, lvl0ex=}
 use Rattle.source.specs.Integers.{◌-u8◌, ◌>>u16◌, as_u8, pc+=, sp-=}
 use Rattle.source.specs.Registers.{ds_write, get_progmem, get_progmem_unused, BitSREG::I, get_sreg_bit}
 use Rattle.source.specs.CallJmpLdsSts.{CALL|JMP|LDS|STS}
@@ -20,7 +20,7 @@ use Rattle.source.specs.Transfer.{PointerRegister::X, PointerRegister::Y, Pointe
 unfoldable pub service_pending : Rust Offer
 service_pending = do
   lvl0ex ← self_lvl0ex
-  if lvl0ex then return Nothing else (do
+  if' lvl0ex then return Nothing else (do
     pending ← self_pending
     elim pending [
       | Vector v ↦ (do lvl0ex= true; return (Vector v))
@@ -43,13 +43,13 @@ entered_by Nothing = return false
 unfoldable pub handle_interrupts : Rust Bool
 handle_interrupts = do
   inhibit ← self_interupt_inhibit
-  if inhibit
+  if' inhibit
       then (do
         interupt_inhibit= false  -- 1230
         return false)
       else (do
         I ← get_sreg_bit BitSREG::I
-        if I then (do vector ← service_pending; entered_by vector) else return false)
+        if' I then (do vector ← service_pending; entered_by vector) else return false)
 
 -- 1265 to 1372, the `match`, and what `tick` returns
 unfoldable pub dispatch : Instruction → Rust Bool
@@ -168,7 +168,7 @@ unfoldable pub execute : Rust Bool
 execute = do
   op ← fetch
   pc ← self_pc
-  if ltb (pc + 1) 65536
+  if' ltb (pc + 1) 65536
       then (do
         let result = pc + 1
         pc= result
@@ -178,10 +178,10 @@ execute = do
 unfoldable pub tick : Rust Bool  -- 1215
 tick = do
   busy ← self_busy
-  if ltb 0 busy
+  if' ltb 0 busy
       then (do
         busy= (← busy -u8 1)
         return true)
       else (do
         returned ← handle_interrupts
-        if returned then return true else execute)
+        if' returned then return true else execute)

@@ -1,7 +1,7 @@
 -- cores.rs 1099 to 1213, the transfers, statement by statement; the number behind a name is its line. Addresses are u32, which holds every sum made here.
 -- `if dec { address = ..; .. }` gives the new address to what follows.
 use Rattle.std.specs.Prelude.{Bool, ℕ, ◌+◌, ltb}
-use Rattle.source.specs.Monad.{Rust, ◌>>=◌, ◌>>◌, return, if◌then◌else◌, when, self_sp, sp=, busy=}
+use Rattle.source.specs.Monad.{Rust, ◌>>=◌, ◌>>◌, return, if'◌then◌else◌, when, self_sp, sp=, busy=}
 use Rattle.source.specs.Integers.{u16::overflowing_add, u16::overflowing_sub, u16::wrapping_add, u16::wrapping_sub, as_u8}
 use Rattle.source.specs.Registers.{get_register, set_register, get_register_word, set_register_word, get_io_register, set_io_register, get_data_space, set_data_space, get_ps}
 
@@ -23,13 +23,13 @@ unfoldable pub ld : ℕ → ℕ → ℕ → Bool → Bool → Rust Unit  -- 1105
 ld d pointer q dec inc = do
   busy= 2
   address ← get_register_word pointer
-  address ← (if dec
+  address ← (if' dec
       then (do
         let address = u16::wrapping_sub address 1
         set_register_word pointer address
         return address)
       else return address)
-  if ltb (address + q) 64
+  if' ltb (address + q) 64
       then (do set_register d (← get_io_register (as_u8 (address + q))))
       else (do set_register d (← get_data_space (address + q)))
   when inc (do
@@ -40,13 +40,13 @@ unfoldable pub st : ℕ → ℕ → ℕ → Bool → Bool → Rust Unit  -- 1131
 st r pointer q dec inc = do
   busy= 1
   address ← get_register_word pointer
-  address ← (if dec
+  address ← (if' dec
       then (do
         let address = u16::wrapping_sub address 1
         set_register_word pointer address
         return address)
       else return address)
-  if ltb (address + q) 64
+  if' ltb (address + q) 64
       then (do set_io_register (as_u8 (address + q)) (← get_register r))
       else (do set_data_space (address + q) (← get_register r))
   when inc (do
