@@ -1,4 +1,4 @@
-/* The C interface of crates/host, as tools/archive builds it (x86-64 Linux).
+/* The C interface of crates/host_c, as tools/archive builds it (x86-64 Linux).
  * A slice is a pointer and a length: that many bytes, of `entered` that many numbers, that may be read, and written where the pointer is not const. The slices of a call, and
  * `ticks`, `line` and `written`, must not overlap; nothing here can check that. The numbers that the calls return are documents 01's and 02's, with the names of enum
  * avr_number and the words of avr_word. Inline functions give the fields of a snapshot their names. */
