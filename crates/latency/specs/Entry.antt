@@ -51,8 +51,8 @@ module _ (v : ℕ → Offer) (k : Core) (p m : List ℕ) where
   vector_offered = before 8 (λ j. offers (v (suc j)))
 
   -- "I set before every tick"
-  abbrev pub iSet : Bool
-  iSet = before 8 (λ j. flag (core_at j) 7)
+  abbrev pub i_set : Bool
+  i_set = before 8 (λ j. flag (core_at j) 7)
 
   -- "no tick refuses or stops"
   abbrev pub none_ends : Bool
@@ -70,7 +70,7 @@ module _ (v : ℕ → Offer) (k : Core) (p m : List ℕ) where
   pub record Waits : Type 0 where
     pub brief : busy_at_most3 ≡ true
     pub outside : not_in_service ≡ true
-    pub enabled : iSet ≡ true
+    pub enabled : i_set ≡ true
     pub goes_on : none_ends ≡ true
     pub no_reti : has_no_reti ≡ true
     pub no_sei : has_no_sei ≡ true

@@ -8,7 +8,7 @@ use Rattle.tick.specs.declared.Offer.{Offer}
 use Rattle.tick.specs.declared.Offer.TheVariants.{Vector, Nothing}
 use Rattle.run.specs.Run.{run_of}
 use Rattle.schedule.specs.Laws.{number_at}
-use Rattle.latency.specs.Entry.{answer_at, busy_at_most3, not_in_service, vector_offered, iSet, none_ends, has_no_reti, has_no_sei, Waiting}
+use Rattle.latency.specs.Entry.{answer_at, busy_at_most3, not_in_service, vector_offered, i_set, none_ends, has_no_reti, has_no_sei, Waiting}
 
 -- ---- programs, low byte of each word first
 abbrev pub nop : List ℕ
@@ -54,7 +54,7 @@ not_at_eight tick = pick (eqb tick 8) Nothing (Vector 0)
 -- ---- an example: whether each premise holds, in 02's order, and the answers of the first nine ticks; 17 is entered
 abbrev pub premises : (ℕ → Offer) → Core → List ℕ → List Bool
 premises v k p =
-    busy_at_most3 v k p bytes ∷ not_in_service v k p bytes ∷ vector_offered v k p bytes ∷ iSet v k p bytes ∷ none_ends v k p bytes ∷ has_no_reti v k p bytes ∷ has_no_sei v k p bytes ∷ []
+    busy_at_most3 v k p bytes ∷ not_in_service v k p bytes ∷ vector_offered v k p bytes ∷ i_set v k p bytes ∷ none_ends v k p bytes ∷ has_no_reti v k p bytes ∷ has_no_sei v k p bytes ∷ []
 
 abbrev pub answers : (ℕ → Offer) → Core → List ℕ → ℕ → ℕ → List ℕ
 answers v k p j zero = []

@@ -6,10 +6,10 @@
 --   + or ∨ between bits  a ⊹ b, or; + itself adds numbers
 --   ⊕                    a ⊕ b, exclusive or; in the operation of EOR `bit_xor`, as `bit_and` and `bit_or` in those of AND and OR
 --   a bar over a bit     bar a, not
---   a row of flags       row, its eight entries in the order I T H S V N Z C: kept for –, is x for a flag that becomes x. V is written «V», since V is a word
---                        of the language
+--   a row of flags       row, its eight entries in the order I T H S V N Z C: kept for –, is x for a flag that becomes x. V is written «V», as it had
+--                        to be before the port
 --   Rd ← x               with_reg k d x; Rd+1:Rd ← x is with_word k d x
---   (X), I/O(A)          dataOf, and left of an arrow set_data_of: a byte of data space, where 0x3D to 0x3F are SP and SREG by 01
+--   (X), I/O(A)          data_of, and left of an arrow set_data_of: a byte of data space, where 0x3D to 0x3F are SP and SREG by 01
 --   STACK ← PC + 1       STACK← k (up k.pc 1) m, and SP ← SP - 2 with it; in PC ← STACK, STACK k m
 --   PC ← PC + 1, cycles  next k 1 c; PC ← x is goes k x c
 use Rattle.std.specs.Prelude.{Bool, not, ◌&&◌, ◌||◌, List, ℕ, ◌+◌, ◌*◌, ◌/◌, ◌%◌, ◌^◌, ◌-◌, eqb, ℤ, pos, negsuc, get_or, set}
