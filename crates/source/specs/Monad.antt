@@ -36,6 +36,7 @@ abbrev pub ◌>>◌ : {A B : Type 0} → Rust A → Rust B → Rust B
 abbrev pub return : {A : Type 0} → A → Rust A
 return a = λ s. ok a s
 
+-- the Rust's `if`, written `if'`, since the library has an `if` of its own
 infix 5 if'◌then◌else◌
 abbrev pub if'◌then◌else◌ {ℓ} : {A : Type ℓ} → Bool → A → A → A
 if'◌then◌else◌ b x y = pick b x y
