@@ -54,6 +54,9 @@ logic=proved functions=8'
 numbers_proofs() { # each crate that is proved now with its number among all that are needed, and none of the prover's own lines
     stand_in 0 'rt: alu: begins with what a check kept in /tmp/crates/alu
 rt: chose --jobs 2 for alu
+so far: 0 of 8 functions checked; the verdict comes last
+so far: 7 of 8 functions checked
+note: only the first of 6 notes on a large solution is printed: the next shows once that one is mended
 struct alu::Sum: proved
 fn alu::plus: proved
 logic antt-project.json: libraries=16 files=2756

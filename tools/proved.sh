@@ -95,7 +95,7 @@ show_proofs() { # what rt says, on standard input: of the crates in $work/crates
         'rt: chose --jobs '*' for '*) crate=${line##* } began=$(date +%s) ;;
         'logic=proved '*) echo "$name: $(sed -n "/^$crate\$/=" "$work/crates") of $((crates)): $crate proved ($(($(date +%s) - began)) s)" ;;
         'rt: nothing has changed since '* | 'rt: running out/'* | 'rt: '*': begins with what a check kept in '* | 'rt: waiting for another rt '* | *': proved') ;;
-        'logic '* | 'only='* | 'statements '* | 'library '*': modules loaded='* | 'crate '*': modules loaded='* | 'axioms '* | 'linked '* | *': note: '* | 'note: no function with a body '*) ;;
+        'logic '* | 'only='* | 'statements '* | 'library '*': modules loaded='* | 'crate '*': modules loaded='* | 'axioms '* | 'linked '* | *': note: '* | 'note: no function with a body '* | 'note: only the first of '* | 'so far: '*' functions checked'*) ;;
         *) printf '%s\n' "$line" ;;
         esac
     done
