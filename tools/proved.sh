@@ -1,7 +1,7 @@
 # What the commands that run proved programs share. A command reads this file with `here` as the repository's folder and `name` as its own name.
 image_bytes=49152 # the longest program that trace takes, and what unhex writes
 text_most=1048576 # the longest text that unhex and rerun take
-crate_seconds=20  # what a crate takes to prove, on two cores: 22 took 7 min 47 s
+crate_seconds=30  # what a crate takes to prove, on two cores, with nothing beside it; 22 took 12 min 51 s with a gate on two others
 
 stop() { # TEXT: says why nothing is run
     printf '%s\n' "$name: $*" >&2
