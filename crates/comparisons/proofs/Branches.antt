@@ -13,7 +13,7 @@ use Rattle.cores.specs.declared.Core.{Core}
 use Rattle.cores.specs.State.{flag, with_pc, with_busy, with_inhibit}
 use Rattle.cores.specs.Flow.{brbx_of}
 use Rattle.tick.specs.Tick.{gives, due, tick_of}
-use Rattle.tick.specs.declared.Offer.TheVariants.{Nothing}
+use Rattle.std.specs.Prelude.{None}
 use Rattle.tick.specs.declared.Answer.TheVariants.{Ran}
 use Rattle.tick.proofs.Steps.{onward}
 use Rattle.interrupts.specs.Handlers.{iterated}
@@ -27,7 +27,7 @@ use Rattle.comparisons.specs.Comparisons.{Question, flag_of, target, Branch, Bra
 -- ---- the branch
 module _ (p : List ℕ) (s : State) (n : ℕ) (d r : ℕ → ℕ) (v : Offers) (t : ℕ) (q : Question) (offset : ℕ)
     (c : Compared n d r s.core (after p s v t).core) (b : Branch p (pc s + n) q offset)
-    (ready : (after p s v t).core.busy ≡ 0) (undue : due (after p s v t).core (v t) ≡ Nothing) where
+    (ready : (after p s v t).core.busy ≡ 0) (undue : due (after p s v t).core (v t) ≡ None) where
   abbrev k : Core
   k = (after p s v t).core
 

@@ -16,8 +16,8 @@ use Rattle.memory.specs.Memory.{has_word_of}
 use Rattle.cores.specs.State.{flag, Sound}
 use Rattle.cores.specs.Flow.{op_at}
 use Rattle.tick.specs.Tick.{due}
-use Rattle.tick.specs.declared.Offer.{Offer}
-use Rattle.tick.specs.declared.Offer.TheVariants.{Nothing}
+use Rattle.tick.specs.Offer.{Offer}
+use Rattle.std.specs.Prelude.{None}
 use Rattle.interrupts.specs.RegisterOnly.{register_only, kind_of}
 use Rattle.interrupts.specs.Handlers.{handler_ticks}
 use Rattle.interrupts.specs.Interrupts.{State, Offers, no_offers, Kept, kept, pc, sp, after, enters, returns, NoTrace}
@@ -31,7 +31,7 @@ use Rattle.comparisons.proofs.Ticks.{Past, past, runs, ticked, first}
 -- at a tick that neither enters nor is refused nothing is due
 module _ (p : List ℕ) (s : State) (n : ℕ) (d r : ℕ → ℕ) (v : Offers) (sound : Sound s.core) (c : Comparison n d r p (pc s)) where
   abbrev Undue : ℕ → Type 0
-  Undue t = Past p s n d r sound c t (after p s v t) → due (after p s v t).core (v t) ≡ Nothing
+  Undue t = Past p s n d r sound c t (after p s v t) → due (after p s v t).core (v t) ≡ None
 
   calm_undue : NoneEnters p s n v → (t : ℕ) → t < n → Undue t
   calm_undue quiet t h x = let (a, f) = quiet t h in calm_due (after p s v t).core p (after p s v t).bytes (v t) x.ready a f
@@ -39,12 +39,12 @@ module _ (p : List ℕ) (s : State) (n : ℕ) (d r : ℕ → ℕ) (v : Offers) (
   -- nor where the offer is not taken
   untaken_undue : (t : ℕ) → NotTaken s v t → Undue t
   untaken_undue t (nothing e) x = rw e (none_due (after p s v t).core)
-  untaken_undue t (disabled e) x = rw (x.i_kept ∙ e) (either (λ o. o ≡ Nothing) (after p s v t).core.inhibit Nothing Nothing refl refl)
+  untaken_undue t (disabled e) x = rw (x.i_kept ∙ e) (either (λ o. o ≡ None) (after p s v t).core.inhibit None None refl refl)
   untaken_undue t (serving e) x = serving_due (after p s v t).core (v t) (x.serves ∙ e)
   untaken_undue t (inhibited z e) x = inhibited_due (after p s v t).core (v t) (x.inhibits ∙ rw z e)
 
   -- and the other way round, by the tests that make an offer due
-  taken_by : (i f g : Bool) (o : Offer) → pick i Nothing (pick f (pick g Nothing o) Nothing) ≡ Nothing → (i ≡ true) ⊎ ((f ≡ false) ⊎ ((g ≡ true) ⊎ (o ≡ Nothing)))
+  taken_by : (i f g : Bool) (o : Offer) → pick i None (pick f (pick g None o) None) ≡ None → (i ≡ true) ⊎ ((f ≡ false) ⊎ ((g ≡ true) ⊎ (o ≡ None)))
   taken_by true f g o e = inl refl
   taken_by false false g o e = inr (inl refl)
   taken_by false true true o e = inr (inr (inl refl))
@@ -54,7 +54,7 @@ module _ (p : List ℕ) (s : State) (n : ℕ) (d r : ℕ → ℕ) (v : Offers) (
   first_inhibits zero i e y = inhibited refl (sym e ∙ y)
   first_inhibits (suc t) i e y = clash (sym y ∙ e ∙ rw (ne_eqb (suc t) 0 (omega arith)))
 
-  undue_untaken : (t : ℕ) → Past p s n d r sound c t (after p s v t) → due (after p s v t).core (v t) ≡ Nothing → NotTaken s v t
+  undue_untaken : (t : ℕ) → Past p s n d r sound c t (after p s v t) → due (after p s v t).core (v t) ≡ None → NotTaken s v t
   undue_untaken t x e =
       let k = (after p s v t).core in
       elim (taken_by k.inhibit (flag k 7) k.in_service (v t) e) [

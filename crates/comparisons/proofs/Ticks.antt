@@ -15,8 +15,8 @@ use Rattle.cores.specs.declared.Core.{Core}
 use Rattle.cores.specs.State.{reg, flag, with_pc, with_inhibit, with_sreg, Sound}
 use Rattle.cores.specs.Arithmetic.{sum_flags, is_zero}
 use Rattle.tick.specs.Tick.{gives, due, tick_of}
-use Rattle.tick.specs.declared.Offer.{Offer}
-use Rattle.tick.specs.declared.Offer.TheVariants.{Nothing}
+use Rattle.tick.specs.Offer.{Offer}
+use Rattle.std.specs.Prelude.{None}
 use Rattle.tick.specs.declared.Answer.TheVariants.{Ran}
 use Rattle.tick.proofs.Steps.{onward}
 use Rattle.invariants.proofs.Bounds.{cznvsh_lt}
@@ -92,7 +92,7 @@ module _ (p : List ℕ) (s : State) (n : ℕ) (d r : ℕ → ℕ) (sound : Sound
         ∙ rw (x.regs, top) (s_on j (reg k (d j)) (reg k (r j)) (held k d j) (held k r j) (sound.reg_lt (d j)) (sound.reg_lt (r j)) (held_lt d j) (held_lt r j))
 
     -- the tick at instruction j, with nothing due
-    module _ (o : Offer) (h : j < n) (undue : due a.core o ≡ Nothing) where
+    module _ (o : Offer) (h : j < n) (undue : due a.core o ≡ None) where
       met : Met a.core p a.bytes o x.ready (CP (d j) (r j))
       met = rw (x.here, comparison.there j h)
 
@@ -116,7 +116,7 @@ module _ (p : List ℕ) (s : State) (n : ℕ) (d r : ℕ → ℕ) (sound : Sound
     abbrev After : State → Type 0
     After q = Past (suc j) q × Flags (suc j) q.core
 
-    ticks_on : (o : Offer) → j < n → due a.core o ≡ Nothing → (1 ≤ j → Flags j a.core) → (tick_at p o a ≡ gives Ran made a.bytes) × After (next p o a)
+    ticks_on : (o : Offer) → j < n → due a.core o ≡ None → (1 ≤ j → Flags j a.core) → (tick_at p o a ≡ gives Ran made a.bytes) × After (next p o a)
     ticks_on o h undue f =
         let e = tick_is in
         (e, subst (λ t. After (record { core = t.core; bytes = t.bytes })) (sym e) (past_on, flags_on))
@@ -125,7 +125,7 @@ module _ (p : List ℕ) (s : State) (n : ℕ) (d r : ℕ → ℕ) (sound : Sound
         tick_is = elim (dec_lt 0 j) [ yes g ↦ later_tick o h undue g (f g) | no g ↦ first_tick o h undue (omega arith) ]
 
   -- ---- the run, where nothing is due at any of its ticks
-  module _ (b : k.busy ≡ 0) (v : Offers) (undue : (t : ℕ) → t < n → Past t (after p s v t) → due (after p s v t).core (v t) ≡ Nothing) where
+  module _ (b : k.busy ≡ 0) (v : Offers) (undue : (t : ℕ) → t < n → Past t (after p s v t) → due (after p s v t).core (v t) ≡ None) where
     reached : (j : ℕ) → j ≤ n → Past j (after p s v j) × (1 ≤ j → Flags j (after p s v j).core)
     unfolding iterated
     reached zero h = (

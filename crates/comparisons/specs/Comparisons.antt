@@ -16,7 +16,7 @@ use Rattle.memory.specs.Memory.{has_word_of}
 use Rattle.cores.specs.declared.Core.{Core}
 use Rattle.cores.specs.State.{reg, flag, Sound}
 use Rattle.cores.specs.Flow.{op_at}
-use Rattle.tick.specs.declared.Offer.TheVariants.{Nothing}
+use Rattle.std.specs.Prelude.{None}
 use Rattle.interrupts.specs.Handlers.{First, handler_ticks}
 use Rattle.interrupts.specs.Interrupts.{State, Offers, Stretch, kept, pc, sp, after, number_at, enters, returns, Ended, Handled, Assumed, AssumedTo}
 
@@ -113,7 +113,7 @@ ComparisonsAreStretches = (p : List ℕ) (start n : ℕ) (d r : ℕ → ℕ) →
 
 -- ---- that none enters is seen at the start: exactly where no offer is taken, since nothing is offered, I is clear, a handler is under way, or it is the first tick and inhibit is set
 pub data NotTaken (s : State) (v : Offers) (t : ℕ) : Type 0 where
-  nothing : v t ≡ Nothing → NotTaken s v t
+  nothing : v t ≡ None → NotTaken s v t
   disabled : flag s.core 7 ≡ false → NotTaken s v t
   serving : s.core.in_service ≡ true → NotTaken s v t
   inhibited : t ≡ 0 → s.core.inhibit ≡ true → NotTaken s v t

@@ -4,7 +4,7 @@ use Rattle.std.specs.Prelude.{◌≡◌, Bool, true, false, List, [], ◌∷◌,
 use Rattle.basis.specs.Pick.{pick}
 use Rattle.cores.specs.declared.Core.{Core}
 use Rattle.cores.specs.State.{fresh_of, with_reg, with_sreg, with_chip}
-use Rattle.tick.specs.declared.Offer.TheVariants.{Vector, Nothing}
+use Rattle.std.specs.Prelude.{Some, None}
 use Rattle.interrupts.specs.Interrupts.{State, Offers, no_offers, pc, after, AssumedTo}
 use Rattle.interrupts.specs.Stamps.{bytes_of}
 use Rattle.comparisons.specs.Comparisons.{Question, less, equal, signed_less, flag_of, Comparison, Branch, WithHandlers}
@@ -44,7 +44,7 @@ abbrev pub start : Bool → ℕ → ℕ → State
 start chip a b = record { core = with_chip (with_sreg (stamped (stamped (fresh_of 15) 16 a) 20 b) 0x80) chip; bytes = replicate 16 0 }
 
 abbrev pub interrupt_at : ℕ → Offers
-interrupt_at place t = pick (eqb t place) (Vector 7) Nothing
+interrupt_at place t = pick (eqb t place) (Some 7) None
 
 -- ---- the theorems' premises are met: 13:00 and 14:00 of 14 July 2026, whose upper two bytes are the same, so that all hangs on the borrow that the lower two leave
 abbrev pub one_pm : ℕ

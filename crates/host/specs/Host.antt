@@ -3,13 +3,13 @@
 use Rattle.std.specs.Prelude.{◌≡◌, List, ℕ, eqb, ltb}
 use Rattle.basis.specs.Pick.{pick}
 use Rattle.tick.specs.Tick.{number_of, tick_of}
-use Rattle.tick.specs.declared.Offer.{Offer}
-use Rattle.tick.specs.declared.Offer.TheVariants.{Vector, Nothing}
+use Rattle.tick.specs.Offer.{Offer}
+use Rattle.std.specs.Prelude.{Some, None}
 use Rattle.run.specs.Run.{run_of}
 use Rattle.snapshot.specs.Snapshot.{read_of, write_of}
 
 abbrev pub offer_of : ℕ → Offer
-offer_of n = pick (ltb n 65536) (Vector n) Nothing
+offer_of n = pick (ltb n 65536) (Some n) None
 
 -- ---- a call of the tick: the number returned, the snapshot's bytes, the data's bytes
 pub record Told : Type 0 where

@@ -5,7 +5,6 @@ ghost use Rattle.std.specs.Prelude.{◌≡◌};
 ghost use Rattle.run.specs.Over.{of_check};
 ghost use Rattle.host.specs.Host.{offer_of, avr_tick_of, avr_run_of, Tells, TellsTicks};
 
-use tick::Offer;
 
 mod hex_files;
 mod schedules;
@@ -13,13 +12,13 @@ mod schedules;
 pub use hex_files::{avr_hex_read, avr_hex_write};
 pub use schedules::avr_run_schedule;
 
-fn offer_of(offer: u32) -> Offer
+fn offer_of(offer: u32) -> Option<u16>
     ensures { result ≡ offer_of offer }
 {
     if offer < 65536 {
-        Offer::Vector(offer as u16)
+        Some(offer as u16)
     } else {
-        Offer::Nothing
+        None
     }
 }
 

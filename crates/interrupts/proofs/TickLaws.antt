@@ -22,8 +22,8 @@ use Rattle.execute.specs.Needs.{refusal, push_needs, needs, fetched, with_fetch}
 use Rattle.execute.specs.Execute.{executed}
 use Rattle.tick.specs.Tick.{Tick, gives, decided, due, entry, executed_tick, stepped, enters_or_steps, tick_of, number_of}
 use Rattle.execute.specs.declared.Done.{Done}
-use Rattle.tick.specs.declared.Offer.{Offer}
-use Rattle.tick.specs.declared.Offer.TheVariants.{Vector, Nothing}
+use Rattle.tick.specs.Offer.{Offer}
+use Rattle.std.specs.Prelude.{Some, None}
 use Rattle.tick.specs.declared.Answer.TheVariants.{Ran}
 use Rattle.invariants.specs.Instructions.{inhibited_by}
 use Rattle.invariants.proofs.Controls.{only_reti_and_sei_touch_the_flags}
@@ -58,7 +58,7 @@ avr p =
       Offer = Offer;
       Kept = Kept;
       Rule = Bool;
-      none = Nothing;
+      none = None;
       tick = next p;
       Allowed = λ o s. 16 ≤ number (tick_at p o s);
       Plain = λ o s. (number (tick_at p o s) ≡ 16) ⊎ (number (tick_at p o s) ≡ 18);
@@ -110,7 +110,7 @@ module _ (p : List ℕ) where
     op = op_at decode_of p k.pc
 
     -- with no vector due
-    run_tick : (o : Offer) → due k o ≡ Nothing → tick_of k p m o ≡ gives Ran (ran_on k op) m
+    run_tick : (o : Offer) → due k o ≡ None → tick_of k p m o ≡ gives Ran (ran_on k op) m
     unfolding enters_or_steps stepped with_inhibit
     run_tick o d = undue_tick k p m o b d ∙ rw (ne_eqb k.pc 65535 (omega arith)) (stepped_listed op k m b there l)
 
@@ -125,18 +125,18 @@ module _ (p : List ℕ) where
     run_free : (o : Offer) → 16 ≤ number (tick_of k p m o) → enters_in (tick_of k p m o) ≡ false → RunsIn (tick_of k p m o)
     run_free o a e = rw (run_tick o (calm_due k p m o b a e)) runs
 
-    calm_tick : tick_of k p m Nothing ≡ gives Ran (ran_on k op) m
-    calm_tick = run_tick Nothing (none_due k)
+    calm_tick : tick_of k p m None ≡ gives Ran (ran_on k op) m
+    calm_tick = run_tick None (none_due k)
 
   -- ---- nothing due: nothing enters
   -- what the instruction at PC answers
   abbrev done_by : Core → List ℕ → Done
   done_by k m = (executed decode_of (onward k) (op_at decode_of p k.pc) p m).done
 
-  none_enters : (o : Offer) (s : State) → due s.core o ≡ Nothing → enters_in (tick_at p o s) ≡ false
+  none_enters : (o : Offer) (s : State) → due s.core o ≡ None → enters_in (tick_at p o s) ≡ false
   none_enters o s h =
       every_tick decode_of (λ t. enters_in t ≡ false) s.core p s.bytes o (λ n g l. ne_eqb n 17 (omega arith)) (λ g l. refl)
-      (λ b v e r. let z : Vector v ≡ Nothing = sym e ∙ h in cc) (λ b e l. refl) (λ b e l r. done_enters_not (done_by s.core s.bytes))
+      (λ b v e r. let z : Some v ≡ None = sym e ∙ h in cc) (λ b e l. refl) (λ b e l r. done_enters_not (done_by s.core s.bytes))
 
   -- ---- an entry
   entry_stores : (k : Core) (m : List ℕ) (v : ℕ) → refusal (push_needs k m) ≡ 0

@@ -24,8 +24,8 @@ use Rattle.instruction.specs.Decode.{decode_of}
 use Rattle.memory.specs.Memory.{has_word_of}
 use Rattle.cores.specs.declared.Core.{Core}
 use Rattle.cores.specs.Flow.{op_at}
-use Rattle.tick.specs.declared.Offer.{Offer}
-use Rattle.tick.specs.declared.Offer.TheVariants.{Nothing}
+use Rattle.tick.specs.Offer.{Offer}
+use Rattle.std.specs.Prelude.{None}
 use Rattle.tick.specs.Tick.{Tick, tick_of, number_of}
 use Rattle.interrupts.specs.RegisterOnly.{register_only, kind_of, is_return}
 use Rattle.interrupts.specs.Handlers.{iterated, First, NotYet, FirstReti, OfHandler, counted_at, handler_ticks}
@@ -53,7 +53,7 @@ abbrev pub Offers : Type 0
 Offers = ℕ → Offer
 
 abbrev pub no_offers : Offers
-no_offers t = Nothing
+no_offers t = None
 
 -- registers and SREG
 pub record Kept : Type 0 where

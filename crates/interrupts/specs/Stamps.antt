@@ -3,7 +3,7 @@
 use Rattle.std.specs.Prelude.{◌≡◌, List, [], ◌∷◌, ℕ, ◌+◌, ◌/◌, ◌%◌, ◌-◌, ◌<◌, ◌≤◌, eqb, replicate}
 use Rattle.basis.specs.Pick.{pick}
 use Rattle.cores.specs.State.{reg, fresh_of, with_reg, with_sreg}
-use Rattle.tick.specs.declared.Offer.TheVariants.{Vector, Nothing}
+use Rattle.std.specs.Prelude.{Some, None}
 use Rattle.interrupts.specs.Handlers.{First, FirstReti}
 use Rattle.interrupts.specs.Interrupts.{State, Offers, no_offers, after, sp, byte_at, number_at, returns, Ended, Begins, Assumed, AssumedTo, NoTrace}
 
@@ -45,7 +45,7 @@ start = record { core = with_sreg (with_reg (with_reg (with_reg (with_reg (fresh
 
 -- a vector at tick 1, between CP and CPC
 abbrev pub between : ℕ → Offers
-between v t = pick (eqb t 1) (Vector v) Nothing
+between v t = pick (eqb t 1) (Some v) None
 
 -- the state after j ticks: with no interrupt, with the first handler, with the second
 abbrev pub plain : ℕ → State

@@ -17,8 +17,8 @@ use Rattle.cores.specs.Flow.{brbx_of, skipped, over_second, op_at}
 use Rattle.cores.specs.Transfer.{data_of, set_data_of, word_if}
 use Rattle.execute.specs.Needs.{refusal, push_needs, needs, fetched, with_fetch}
 use Rattle.execute.specs.Execute.{Executed, ran, ran_out, executed}
-use Rattle.tick.specs.declared.Offer.{Offer}
-use Rattle.tick.specs.declared.Offer.TheVariants.{Vector, Nothing}
+use Rattle.tick.specs.Offer.{Offer}
+use Rattle.std.specs.Prelude.{Some, None}
 use Rattle.tick.proofs.Steps.{onward, every_tick}
 use Rattle.tick.specs.Tick.{Tick, due, stepped, enters_or_steps, ticked}
 use Rattle.invariants.proofs.Controls.{instructions_keep_the_rule}
@@ -188,8 +188,8 @@ module _ (k : Core) (p m : List ℕ) (on : Bool) where
 
   enters_alike : asks_the_rule (op_at decode_of p k.pc) ≡ false → (o : Offer) → enters_or_steps decode_of j p m o ≡ under on (enters_or_steps decode_of k p m o)
   unfolding enters_or_steps with_service with_busy with_pc with_sp with_inhibit with_chip
-  enters_alike n (Vector v) = tick_pick (eqb (refusal (push_needs k m)) 0) on _ _ _ refl
-  enters_alike n Nothing = tick_pick (eqb k.pc 65535) on _ _ _ (step_alike n)
+  enters_alike n (Some v) = tick_pick (eqb (refusal (push_needs k m)) 0) on _ _ _ refl
+  enters_alike n None = tick_pick (eqb k.pc 65535) on _ _ _ (step_alike n)
 
 pub rules_differ_where_asked : RulesDifferWhereAsked
 unfolding ticked with_busy with_chip

@@ -21,7 +21,7 @@ use Rattle.cores.proofs.Bounds.{program_word_lt}
 use Rattle.execute.specs.declared.Done.{Done}
 use Rattle.execute.specs.declared.Done.TheVariants as done
 use Rattle.tick.specs.Tick.{number_of, refuses, answer_of, due, entry}
-use Rattle.tick.specs.declared.Offer.{Offer}
+use Rattle.tick.specs.Offer.{Offer}
 use Rattle.tick.proofs.Steps.{every_due, onward, performed, every_tick, refused_keeps}
 use Rattle.invariants.specs.Instructions.{ByteOperand, InRange}
 use Rattle.invariants.specs.Ticks.{Offered, TickNumber, TicksStayInRange, RefusedTicksChangeNothing, TicksAnswerTickNumbers, Brief, TicksLeaveBusyAtMost4}

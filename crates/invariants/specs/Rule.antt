@@ -10,7 +10,7 @@ use Rattle.cores.specs.declared.Core.{Core}
 use Rattle.cores.specs.State.{with_chip}
 use Rattle.cores.specs.Flow.{op_at}
 use Rattle.execute.specs.Execute.{executed}
-use Rattle.tick.specs.declared.Offer.{Offer}
+use Rattle.tick.specs.Offer.{Offer}
 use Rattle.tick.specs.Tick.{Tick, gives, tick_of}
 
 -- ---- nothing changes it: of any core whatever, and refused or not

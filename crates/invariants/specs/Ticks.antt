@@ -3,16 +3,16 @@ use Rattle.std.specs.Prelude.{◌≡◌, ◌⊎◌, List, ℕ, ◌≤◌, ◌<�
 use Rattle.basis.specs.Bytes.{Bytes}
 use Rattle.cores.specs.declared.Core.{Core}
 use Rattle.cores.specs.State.{Sound}
-use Rattle.tick.specs.declared.Offer.{Offer}
-use Rattle.tick.specs.declared.Offer.TheVariants.{Vector, Nothing}
+use Rattle.tick.specs.Offer.{Offer}
+use Rattle.std.specs.Prelude.{Some, None}
 use Rattle.tick.specs.declared.Answer.TheVariants.{Refused}
 use Rattle.tick.specs.Tick.{Tick, tick_of, number_of}
 use Rattle.invariants.specs.Instructions.{InRange}
 
 -- "An offer is a vector 0 to 65,535, or none."
 abbrev pub Offered : Offer → Type 0
-Offered (Vector v) = v < 65536
-Offered Nothing = Unit {0}
+Offered (Some v) = v < 65536
+Offered None = Unit {0}
 
 -- the numbers that a tick can answer with: refusals 1 to 5, and waited to end
 abbrev pub TickNumber : ℕ → Type 0

@@ -22,7 +22,7 @@ use Rattle.cores.specs.Transfer.{set_data_of, word_if}
 use Rattle.cores.proofs.Space.{store_keeps}
 use Rattle.execute.specs.Execute.{behind}
 use Rattle.tick.specs.Tick.{Tick, number_of, gives, tick_of}
-use Rattle.tick.specs.declared.Offer.{Offer}
+use Rattle.tick.specs.Offer.{Offer}
 use Rattle.tick.specs.declared.Answer.TheVariants.{Waited}
 use Rattle.tick.proofs.Steps.{every_tick, busy_tick, onward, performed}
 use Rattle.schedule.specs.Laws.{after_by, tick_by}

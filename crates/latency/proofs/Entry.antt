@@ -20,7 +20,7 @@ use Rattle.cores.specs.declared.Core.{Core}
 use Rattle.cores.specs.State.{flag}
 use Rattle.cores.specs.Flow.{op_at}
 use Rattle.tick.specs.Tick.{number_of, refuses, stops}
-use Rattle.tick.specs.declared.Offer.{Offer}
+use Rattle.tick.specs.Offer.{Offer}
 use Rattle.run.specs.Lent.{offers}
 use Rattle.schedule.specs.Laws.{after_by, tick_by, enters_by, how_many}
 use Rattle.latency.specs.Entry.{before, core_at, runs, Waits, vector_offered, EntryBy, EntryWithinEight, EntryBehindTheWaits}

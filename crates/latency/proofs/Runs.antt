@@ -12,8 +12,8 @@ use borrow.Author.Tests.{ltb-true, ltb-false, eqb-true, eqb-false}
 use Rattle.basis.proofs.Choice.{clash, test}
 use Rattle.cores.specs.declared.Core.{Core}
 use Rattle.tick.specs.Tick.{Tick, number_of, refuses, stops, tick_of}
-use Rattle.tick.specs.declared.Offer.{Offer}
-use Rattle.tick.specs.declared.Offer.TheVariants.{Vector}
+use Rattle.tick.specs.Offer.{Offer}
+use Rattle.std.specs.Prelude.{Some}
 use Rattle.tick.specs.declared.Answer.TheVariants.{Entered}
 use Rattle.run.specs.Run.{Run, ran, run_of, after_ticks, tick_after, goes_on}
 use Rattle.run.specs.Lent.{offers}
@@ -95,7 +95,7 @@ counts (suc b) k p m o h =
 pub runs_enter_within_eight : RunsEnterWithinEight
 unfolding after_by
 runs_enter_within_eight b room k p m vector w =
-    let o = Vector vector in
+    let o = Some vector in
     let v = one_offer p o in
     let offered = always v k p m 8 (λ j. offers (v (suc j))) (λ j l. refl) in
     let e = entry_within_eight v k p m w offered in

@@ -14,7 +14,7 @@ use borrow.Author.Tests.{le-leb, leb-true, leb-false, le-ltb, ltb-true, ltb-fals
 use Rattle.basis.proofs.Choice.{test, cases}
 use Rattle.cores.specs.declared.Core.{Core}
 use Rattle.tick.specs.Tick.{Tick, refuses, stops, tick_of}
-use Rattle.tick.specs.declared.Offer.{Offer}
+use Rattle.tick.specs.Offer.{Offer}
 use Rattle.tick.specs.declared.Answer.TheVariants.{Entered}
 use Rattle.run.specs.Lent.{offers}
 use Rattle.schedule.specs.Schedule.{record_at, records_from}

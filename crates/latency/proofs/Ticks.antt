@@ -17,8 +17,8 @@ use Rattle.cores.specs.declared.Core.{Core}
 use Rattle.cores.specs.State.{flag, with_pc, with_busy, with_inhibit, with_service}
 use Rattle.cores.specs.Flow.{op_at}
 use Rattle.tick.specs.Tick.{Tick, number_of, refuses, stops, due, tick_of}
-use Rattle.tick.specs.declared.Offer.{Offer}
-use Rattle.tick.specs.declared.Offer.TheVariants.{Vector, Nothing}
+use Rattle.tick.specs.Offer.{Offer}
+use Rattle.std.specs.Prelude.{Some, None}
 use Rattle.tick.specs.declared.Answer.TheVariants.{Entered}
 use Rattle.tick.proofs.Steps.{every_tick, every_due, onward, performed}
 use Rattle.run.specs.Lent.{offers}
@@ -38,7 +38,7 @@ enters k p m o =
     every_tick decode_of (λ t. eqb (number_of t.answer) 17 ≡ true → Enters k t) k p m o
     (λ n g l e. clash (sym e ∙ ne_eqb n 17 (λ z. omega (arith, z))))
     (λ g l e. clash (sym e))
-    (λ z v d l e. record { answer = refl; clear = every_due (λ w. w ≡ Vector v → k.in_service ≡ false) k o (λ c. clash (sym (ap offers c))) (λ _ s _. s) d; set = refl })
+    (λ z v d l e. record { answer = refl; clear = every_due (λ w. w ≡ Some v → k.in_service ≡ false) k o (λ c. clash (sym (ap offers c))) (λ _ s _. s) d; set = refl })
     (λ z d l e. clash (sym e))
     λ z d l r e. clash (sym e ∙ done_enters_not (performed decode_of k p m).done)
 
@@ -66,10 +66,10 @@ pub record Nearer (chip : Bool) (k next : Core) : Type 0 where
   pub nearer : away next < away k
 
 -- with I set, no service and an offer, nothing is due only where inhibit is set
-inhibited : (k : Core) (o : Offer) → offers o ≡ true → flag k 7 ≡ true → k.in_service ≡ false → due k o ≡ Nothing → k.inhibit ≡ true
+inhibited : (k : Core) (o : Offer) → offers o ≡ true → flag k 7 ≡ true → k.in_service ≡ false → due k o ≡ None → k.inhibit ≡ true
 inhibited k o f i s = by k.inhibit (flag k 7) k.in_service i s
   where
-    by : (on enabled service : Bool) → enabled ≡ true → service ≡ false → pick on Nothing (pick enabled (pick service Nothing o) Nothing) ≡ Nothing → on ≡ true
+    by : (on enabled service : Bool) → enabled ≡ true → service ≡ false → pick on None (pick enabled (pick service None o) None) ≡ None → on ≡ true
     by true enabled service i s e = refl
     by false true true i s e = clash s
     by false true false i s e = clash (sym f ∙ ap offers e)

@@ -13,7 +13,7 @@ use Rattle.cores.specs.State.{reg, flag, fresh_of, with_reg, with_sreg}
 use Rattle.cores.specs.Flow.{op_at, two_at, data_bit_is}
 use Rattle.execute.specs.Execute.{behind, executed}
 use Rattle.tick.specs.Tick.{number_of}
-use Rattle.tick.specs.declared.Offer.{Offer}
+use Rattle.tick.specs.Offer.{Offer}
 use Rattle.tick.specs.declared.Answer.TheVariants.{Waited}
 use Rattle.schedule.specs.Laws.{after_by, tick_by}
 use Rattle.manual.specs.Switches.{the_manual, Says, undefined, sleeps, says}

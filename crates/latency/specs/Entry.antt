@@ -12,8 +12,8 @@ use Rattle.cores.specs.declared.Core.{Core}
 use Rattle.cores.specs.State.{flag}
 use Rattle.cores.specs.Flow.{op_at}
 use Rattle.tick.specs.Tick.{number_of, refuses, stops}
-use Rattle.tick.specs.declared.Offer.{Offer}
-use Rattle.tick.specs.declared.Offer.TheVariants.{Vector}
+use Rattle.tick.specs.Offer.{Offer}
+use Rattle.std.specs.Prelude.{Some}
 use Rattle.tick.specs.declared.Answer.TheVariants.{Entered}
 use Rattle.run.specs.Run.{run_of, after_ticks, tick_after, goes_on}
 use Rattle.run.specs.Lent.{offers}
@@ -107,7 +107,7 @@ module _ (b : ℕ) (k : Core) (p m : List ℕ) (o : Offer) where
 
 abbrev pub RunsEnterWithinEight : Type 0
 RunsEnterWithinEight =
-    (b : ℕ) → 8 ≤ b → (k : Core) (p m : List ℕ) (vector : ℕ) → Waits (λ _. Vector vector) k p m → RunEnters b k p m (Vector vector)
+    (b : ℕ) → 8 ≤ b → (k : Core) (p m : List ℕ) (vector : ℕ) → Waits (λ _. Some vector) k p m → RunEnters b k p m (Some vector)
 
 -- ---- W5's run by a schedule, with list l, from `at` ticks done on
 module _ (b : ℕ) (k : Core) (p m l : List ℕ) (at : ℕ) where

@@ -4,8 +4,8 @@ use Rattle.std.specs.Prelude.{◌≡◌, Bool, true, false, List, [], ◌∷◌,
 use Rattle.basis.specs.Pick.{pick}
 use Rattle.cores.specs.declared.Core.{Core}
 use Rattle.cores.specs.State.{fresh_of, with_sreg, with_sp, with_busy, with_inhibit, with_service, with_chip}
-use Rattle.tick.specs.declared.Offer.{Offer}
-use Rattle.tick.specs.declared.Offer.TheVariants.{Vector, Nothing}
+use Rattle.tick.specs.Offer.{Offer}
+use Rattle.std.specs.Prelude.{Some, None}
 use Rattle.run.specs.Run.{run_of}
 use Rattle.schedule.specs.Laws.{number_at}
 use Rattle.latency.specs.Entry.{answer_at, busy_at_most3, not_in_service, vector_offered, i_set, none_ends, has_no_reti, has_no_sei, Waiting}
@@ -46,10 +46,10 @@ list = 0 ∷ 0 ∷ 1 ∷ 0 ∷ 0 ∷ []
 
 -- vector 0 at every tick; and at every tick but the eighth
 abbrev pub always : ℕ → Offer
-always tick = Vector 0
+always tick = Some 0
 
 abbrev pub not_at_eight : ℕ → Offer
-not_at_eight tick = pick (eqb tick 8) Nothing (Vector 0)
+not_at_eight tick = pick (eqb tick 8) None (Some 0)
 
 -- ---- an example: whether each premise holds, in 02's order, and the answers of the first nine ticks; 17 is entered
 abbrev pub premises : (ℕ → Offer) → Core → List ℕ → List Bool
@@ -84,12 +84,12 @@ pub record EightIsTheFigure : Type 0 where
   pub sei_under_chip : Shows always (with_chip (start 3 true) true) (sei ++ ret) (all_but 6) (16 ∷ 16 ∷ 16 ∷ 18 ∷ 18 ∷ 16 ∷ 16 ∷ 16 ∷ 17 ∷ [])
   pub sei_under_source : Shows always (start 3 true) (sei ++ ret) all (16 ∷ 16 ∷ 16 ∷ 18 ∷ 17 ∷ 16 ∷ 16 ∷ 16 ∷ 16 ∷ [])
   -- the first as a run of eight ticks, and by the list: its record waits, and is entered seven ticks later than due; and a run that stops before its entry
-  pub run_answers : (run_of 8 (start 3 true) ret bytes (Vector 0)).answer ≡ 24
-  pub run_counts : (run_of 8 (start 3 true) ret bytes (Vector 0)).count ≡ 8
-  pub run_in_service : (run_of 8 (start 3 true) ret bytes (Vector 0)).core.in_service ≡ true
+  pub run_answers : (run_of 8 (start 3 true) ret bytes (Some 0)).answer ≡ 24
+  pub run_counts : (run_of 8 (start 3 true) ret bytes (Some 0)).count ≡ 8
+  pub run_in_service : (run_of 8 (start 3 true) ret bytes (Some 0)).core.in_service ≡ true
   pub waiting : Waiting 20 (start 3 true) ret bytes list 0 0
   pub seven_late : number_at 20 (start 3 true) ret bytes list 0 ≡ 8
-  pub stops_first : (run_of 8 (start 0 true) break bytes (Vector 0)).count ≡ 1
+  pub stops_first : (run_of 8 (start 0 true) break bytes (Some 0)).count ≡ 1
   -- four ticks, and two of a register-only instruction: each up to the tick that waits no more
-  pub four_ticks : answers (λ tick. Nothing) (start 0 false) ret 0 5 ≡ 18 ∷ 16 ∷ 16 ∷ 16 ∷ 18 ∷ []
-  pub two_ticks : answers (λ tick. Nothing) (start 0 false) (adiw ++ nop) 0 3 ≡ 18 ∷ 16 ∷ 18 ∷ []
+  pub four_ticks : answers (λ tick. None) (start 0 false) ret 0 5 ≡ 18 ∷ 16 ∷ 16 ∷ 16 ∷ 18 ∷ []
+  pub two_ticks : answers (λ tick. None) (start 0 false) (adiw ++ nop) 0 3 ≡ 18 ∷ 16 ∷ 18 ∷ []

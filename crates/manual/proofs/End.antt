@@ -17,8 +17,8 @@ use Rattle.execute.specs.Needs.{Needs, refusal, needs, fetched, with_fetch, push
 use Rattle.execute.specs.Execute.{executed}
 use Rattle.execute.specs.declared.Done.{Done}
 use Rattle.execute.specs.declared.Done.TheVariants as done
-use Rattle.tick.specs.declared.Offer.{Offer}
-use Rattle.tick.specs.declared.Offer.TheVariants.{Vector, Nothing}
+use Rattle.tick.specs.Offer.{Offer}
+use Rattle.std.specs.Prelude.{Some, None}
 use Rattle.tick.specs.declared.Answer.TheVariants.{Refused, End}
 use Rattle.tick.specs.Tick as paper
 use Rattle.tick.specs.Tick.{Tick, gives, answer_of, decided, due, executed_tick, stepped, ticked, tick_of}
@@ -80,8 +80,8 @@ module _ (s : Switches) (p m : List ℕ) (k : Core) where
   enters_same : (o : Offer) → k.sreg < 256 → s end ≡ false
       → enters_or_steps s k p m o ≡ pick (ended (paper.enters_or_steps decode_of k p m o)) (step s k j p m) (enters_or_steps (with_end s) k p m o)
   unfolding enters_or_steps paper.enters_or_steps
-  enters_same (Vector v) h n = entered_by v (eqb (refusal (push_needs k m)) 0) refl
-  enters_same Nothing h n =
+  enters_same (Some v) h n = entered_by v (eqb (refusal (push_needs k m)) 0) refl
+  enters_same None h n =
       end_by (s end) (eqb k.pc 65535) (step s k j p m) (step (with_end s) k j p m) (stepped decode_of k j p m) n (step_same h) (stepped_goes_on k j p m)
 
   tick_by_lem : (o : Offer) (b : Bool) → ltb 0 k.busy ≡ b → Sound k → s end ≡ false

@@ -23,8 +23,8 @@ use Rattle.execute.specs.Needs.{Needs, refusal, needs, fetched, with_fetch, push
 use Rattle.execute.specs.Execute.{executed}
 use Rattle.execute.specs.declared.Done.{Done}
 use Rattle.execute.specs.declared.Done.TheVariants as done
-use Rattle.tick.specs.declared.Offer.{Offer}
-use Rattle.tick.specs.declared.Offer.TheVariants.{Vector, Nothing}
+use Rattle.tick.specs.Offer.{Offer}
+use Rattle.std.specs.Prelude.{Some, None}
 use Rattle.tick.specs.declared.Answer.TheVariants.{Refused, End}
 use Rattle.tick.specs.Tick as paper
 use Rattle.tick.specs.Tick.{Tick, gives, answer_of, due, executed_tick, stepped, ticked, tick_of}
@@ -127,8 +127,8 @@ module _ (s : Switches) (p m : List ℕ) (pp : Bytes p) (mm : Bytes m) where
 
   enters_is : (k : Core) (o : Offer) → s end ≡ true → Sound k → k.busy ≡ 0 → enters_or_steps s k p m o ≡ after s (with_inhibit k false) p (paper.enters_or_steps decode_of k p m o)
   unfolding enters_or_steps paper.enters_or_steps
-  enters_is k (Vector v) n w b = entered_by k v (eqb (refusal (push_needs k m)) 0) refl
-  enters_is k Nothing n w b =
+  enters_is k (Some v) n w b = entered_by k v (eqb (refusal (push_needs k m)) 0) refl
+  enters_is k None n w b =
       let j = with_inhibit k false in
       end_by j (s end) (eqb k.pc 65535) (step s k j p m) (stepped decode_of k j p m) n (λ e. not_at_end k w b e)
 

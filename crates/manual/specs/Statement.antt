@@ -17,7 +17,7 @@ use Rattle.instruction.specs.declared.Instruction.{Instruction}
 use Rattle.instruction.specs.declared.Instruction.TheVariants.{BREAK, SLEEP, WDR, UNDEF}
 use Rattle.cores.specs.declared.Core.{Core}
 use Rattle.cores.specs.State.{Sound, with_inhibit}
-use Rattle.tick.specs.declared.Offer.{Offer}
+use Rattle.tick.specs.Offer.{Offer}
 use Rattle.tick.specs.Tick.{Tick, number_of, tick_of}
 use Rattle.manual.specs.Switches.{Switch, adiw_v, loads, stores, after_sei, unknown, outside, end, target, pointers, Switches, base, the_manual, turned, base_but}
 use Rattle.manual.specs.Tick.{told, opcode_at, step, tick_by}

@@ -9,8 +9,8 @@ use Rattle.memory.specs.Memory.{program_word_of}
 use Rattle.cores.specs.declared.Core.{Core}
 use Rattle.cores.specs.State.{with_busy, with_pc, with_inhibit}
 use Rattle.execute.specs.Needs.{Needs, refusal, needs, fetched, with_fetch}
-use Rattle.tick.specs.declared.Offer.{Offer}
-use Rattle.tick.specs.declared.Offer.TheVariants.{Vector, Nothing}
+use Rattle.tick.specs.Offer.{Offer}
+use Rattle.std.specs.Prelude.{Some, None}
 use Rattle.tick.specs.declared.Answer.TheVariants.{Refused, Waited, End}
 use Rattle.tick.specs.Tick.{Tick, due, entered}
 use Rattle.manual_opcodes.specs.Opcodes.{manual_decode}
@@ -39,8 +39,8 @@ step s k j p m =
 
 -- with the vector that is due, or none. With the end off, CALL, LDS, STS and a taken skip at PC 65,535 are still refused: the refusals are 01's
 unfoldable pub enters_or_steps : Switches → Core → List ℕ → List ℕ → Offer → Says
-enters_or_steps s k p m (Vector v) = told (entered k v m)
-enters_or_steps s k p m Nothing = let j = with_inhibit k false in pick (s end && eqb k.pc 65535) (says End j m) (step s k j p m)
+enters_or_steps s k p m (Some v) = told (entered k v m)
+enters_or_steps s k p m None = let j = with_inhibit k false in pick (s end && eqb k.pc 65535) (says End j m) (step s k j p m)
 
 -- core k, program p, data m, offer o
 unfoldable pub tick_by : Switches → Core → List ℕ → List ℕ → Offer → Says

@@ -4,7 +4,7 @@ use Rattle.std.specs.Prelude.{◌≡◌, Bool, true, false, List, [], ◌∷◌,
 use Rattle.basis.specs.Bit.{one}
 use Rattle.cores.specs.declared.Core.{Core}
 use Rattle.cores.specs.State.{fresh_of, with_reg, with_pc, with_sp, with_chip}
-use Rattle.tick.specs.declared.Offer.TheVariants.{Nothing}
+use Rattle.std.specs.Prelude.{None}
 use Rattle.tick.specs.Tick.{number_of, tick_of}
 use Rattle.manual.specs.Switches.{adiw_v, loads, stores, after_sei, unknown, outside, end, target, pointers, Switches, the_manual, base_but, Says, undefined, sleeps, says}
 use Rattle.manual.specs.Tick.{told, tick_by}
@@ -38,8 +38,8 @@ abbrev pub fresh : Bool → Core
 fresh chip = with_chip (fresh_of 0) chip
 
 pub record Shows (s : Switches) (k : Core) (p : List ℕ) (see : Says → ℕ) (manual port : ℕ) : Type 0 where
-  pub by_manual : see (tick_by s k p (0 ∷ []) Nothing) ≡ manual
-  pub by_port : see (told (tick_of k p (0 ∷ []) Nothing)) ≡ port
+  pub by_manual : see (tick_by s k p (0 ∷ []) None) ≡ manual
+  pub by_port : see (told (tick_of k p (0 ∷ []) None)) ≡ port
 
 -- ---- the table
 -- the rows that remain under either rule

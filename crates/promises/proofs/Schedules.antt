@@ -11,7 +11,7 @@ use borrow.Author.Tests.{ltb-true, ltb-false, leb-true, eq-eqb}
 use Rattle.basis.specs.Bit.{one}
 use Rattle.basis.proofs.Choice.{clash}
 use Rattle.cores.specs.declared.Core.{Core}
-use Rattle.tick.specs.declared.Offer.{Offer}
+use Rattle.tick.specs.Offer.{Offer}
 use Rattle.tick.specs.Tick.{Tick, number_of, tick_of}
 use Rattle.run.specs.Run.{Run}
 use Rattle.schedule.specs.Schedule.{records_of, rising}

@@ -4,14 +4,14 @@ use Rattle.instruction.specs.declared.Instruction.TheVariants.{ADD, NOP, UNDEF}
 use Rattle.instruction.specs.Decode.{decode_of}
 use Rattle.cores.specs.declared.Core.{Core}
 use Rattle.cores.specs.State.{fresh_of, with_reg, with_word, with_sreg, with_pc, with_sp, with_busy, with_service, with_chip}
-use Rattle.tick.specs.declared.Offer.TheVariants.{Vector, Nothing}
+use Rattle.std.specs.Prelude.{Some, None}
 use Rattle.tick.specs.declared.Answer.{Answer}
 use Rattle.tick.specs.declared.Answer.TheVariants.{Refused, Waited, Entered, Ran, End}
 use Rattle.tick.specs.Tick.{gives, tick_of}
 
 -- one tick of core k, program p and data m, with nothing offered: it answers a, and leaves core j and data n
 abbrev Ticks : Core → List ℕ → List ℕ → Answer → Core → List ℕ → Type 0
-Ticks k p m a j n = tick_of k p m Nothing ≡ gives a j n
+Ticks k p m a j n = tick_of k p m None ≡ gives a j n
 
 -- it runs without data, and leaves core j
 abbrev Runs : Core → List ℕ → Core → Type 0
@@ -77,6 +77,6 @@ pub record BenchSheet : Type 0 where
   pub line_12 :
       let k = with_sreg (with_pc (fresh_of 0x0200) 0x1234) 0x80 in
       let m = zeros 0x0201 in
-      tick_of k [] m (Vector 6) ≡ gives Entered (with_service (with_busy (with_pc (with_sp k 0x01FE) 6) 4) true) (set (set m 0x0200 0x34) 0x01FF 0x12)
+      tick_of k [] m (Some 6) ≡ gives Entered (with_service (with_busy (with_pc (with_sp k 0x01FE) 6) 4) true) (set (set m 0x0200 0x34) 0x01FF 0x12)
   -- 13: SBRS R0,0 (bit set) at PC 0 before a JMP: PC 3, busy 2
   pub line_13 : let k = with_reg (fresh_of 0) 0 1 in Runs k (0x00 ∷ 0xFE ∷ 0x0C ∷ 0x94 ∷ []) (with_busy (with_pc k 3) 2)

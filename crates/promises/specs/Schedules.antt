@@ -4,7 +4,7 @@
 -- are numbers of ticks.
 use Rattle.std.specs.Prelude.{◌≡◌, true, List, [], ◌∷◌, ℕ, suc, ◌+◌, ◌<◌}
 use Rattle.cores.specs.State.{reg}
-use Rattle.tick.specs.declared.Offer.TheVariants.{Nothing}
+use Rattle.std.specs.Prelude.{None}
 use Rattle.run.specs.Run.{Run, run_of}
 use Rattle.schedule.specs.Schedule.{records_of, rising, Scheduled, scheduled}
 use Rattle.schedule.specs.Laws.{how_many, offers, entered_in}
@@ -23,7 +23,7 @@ module _ (p : List ℕ) (s : State) (l : List ℕ) (long : ℕ) where
 
   -- the plain run of so many ticks
   abbrev pub plain : ℕ → Run
-  plain short = run_of short s.core p s.bytes Nothing
+  plain short = run_of short s.core p s.bytes None
 
   -- what is assumed: the list's ticks rise; the run did all its ticks, so that none was refused or stopped it, and is at the end with the last of them; each handler gets to its first RETI
   -- with registers and SREG as before its entry, SP two lower and its return bytes intact

@@ -14,7 +14,7 @@ use Rattle.basis.proofs.Choice.{clash, either}
 use Rattle.cores.specs.declared.Core.{Core}
 use Rattle.cores.specs.State.{Sound}
 use Rattle.tick.specs.Tick.{Tick, number_of, refuses, stops, tick_of}
-use Rattle.tick.specs.declared.Offer.TheVariants.{Vector, Nothing}
+use Rattle.std.specs.Prelude.{Some, None}
 use Rattle.invariants.specs.Instructions.{InRange}
 use Rattle.invariants.specs.Ticks.{Offered}
 use Rattle.invariants.proofs.Ticks.{ticks_stay_in_range}
@@ -32,7 +32,7 @@ others (d ∷ ds) v = v.1
 
 offers : (tick : ℕ) (ds : List Record) → Vectors ds → Offered (offered tick ds)
 offers tick [] v = tt
-offers tick (d ∷ ds) v = either Offered (leb d.tick tick) (Vector d.vector) (offered tick ds) v.0 (offers tick ds v.1)
+offers tick (d ∷ ds) v = either Offered (leb d.tick tick) (Some d.vector) (offered tick ds) v.0 (offers tick ds v.1)
 
 pub vectors_in : (l : List ℕ) → Bytes l → (i many : ℕ) → Vectors (records_from l i many)
 vectors_in l b i zero = tt
@@ -107,7 +107,7 @@ entries_by false false false j t ds x y f g = g
 
 -- with no record nothing is offered, and nothing entered
 one_less : (ds : List Record) (k : Core) (p m : List ℕ) (j n : ℕ) → n ≡ length (drop 1 ds) → eqb (number_of (tick_of k p m (offered (suc j) ds)).answer) 17 ≡ true → suc n ≡ length ds
-one_less [] k p m j n h e = clash (sym e ∙ (by_number k p m Nothing).unoffered refl)
+one_less [] k p m j n h e = clash (sym e ∙ (by_number k p m None).unoffered refl)
 one_less (d ∷ ds) k p m j n h e = ap suc h
 
 pub many_entries : (left j : ℕ) (k : Core) (p m : List ℕ) (ds : List Record) → length (scheduled left j k p m ds).entries ≡ length ds

@@ -7,7 +7,7 @@ use Rattle.cores.specs.declared.Core.{Core}
 use Rattle.cores.specs.State.{Leaves, with_pc, with_sp, with_busy, with_inhibit, with_service, with_chip}
 use Rattle.execute.specs.Execute.{effect_of, executed}
 use Rattle.tick.specs.Tick.{Tick, gives, refuses, stops, tick_of}
-use Rattle.tick.specs.declared.Offer.{Offer}
+use Rattle.tick.specs.Offer.{Offer}
 use Rattle.tick.specs.declared.Answer.TheVariants.{Ran}
 use Rattle.invariants.proofs.Waits.{instructions_wait_at_most_3}
 use Rattle.effects.specs.Parts.{stood, cored}

@@ -8,7 +8,7 @@ use Rattle.basis.proofs.Choice.{test, cases}
 use Rattle.cores.specs.declared.Core.{Core}
 use Rattle.cores.specs.State.{fresh_of, with_regs, with_sp, with_pc, with_busy, with_inhibit, with_service, with_chip, Sound}
 use Rattle.tick.specs.Tick.{tick_of}
-use Rattle.tick.specs.declared.Offer.{Offer}
+use Rattle.tick.specs.Offer.{Offer}
 use Rattle.tick.specs.declared.Answer.TheVariants.{Ran}
 use Rattle.effects.specs.Parts.{stood, cored}
 use Rattle.snapshot.specs.Snapshot.{bytes_of, core_of, read_of}

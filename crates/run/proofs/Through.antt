@@ -5,7 +5,7 @@ use Rattle.basis.specs.Bytes.{Bytes}
 use Rattle.cores.specs.declared.Core.{Core}
 use Rattle.cores.specs.State.{Sound}
 use Rattle.tick.specs.Tick.{Tick, gives, refuses, stops, ticked, tick_of}
-use Rattle.tick.specs.declared.Offer.{Offer}
+use Rattle.tick.specs.Offer.{Offer}
 use Rattle.tick.specs.declared.Answer.TheVariants.{Refused}
 use Rattle.invariants.specs.Ticks.{Offered}
 use Rattle.invariants.proofs.Ticks.{ticks_stay_in_range}

@@ -2,7 +2,7 @@
 -- Assumes nothing.
 use Rattle.std.proofs.Common.{◌≡◌, ℕ, zero, suc, ◌+◌, Bool, true, false, ◌⊎◌, List, refl, inl, inr, arith}
 use Rattle.cores.specs.declared.Core.{Core}
-use Rattle.tick.specs.declared.Offer.{Offer}
+use Rattle.tick.specs.Offer.{Offer}
 use Rattle.tick.specs.Tick.{Tick, refuses, stops, tick_of}
 use Rattle.tick.proofs.Steps.{refused_keeps}
 use Rattle.run.specs.Run.{Run, after, ran, run_of, after_ticks, Spent, RefusedNext, StoppedLast, RunsAreTicks}

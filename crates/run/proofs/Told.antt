@@ -12,8 +12,8 @@ use Rattle.cores.specs.State.{with_pc, with_sp, with_busy, with_inhibit, with_se
 use Rattle.execute.specs.Execute.{executed}
 use Rattle.execute.proofs.Answers.{executed-done}
 use Rattle.tick.specs.Tick.{gives, due, stepped, enters_or_steps, tick_of}
-use Rattle.tick.specs.declared.Offer.{Offer}
-use Rattle.tick.specs.declared.Offer.TheVariants.{Vector, Nothing}
+use Rattle.tick.specs.Offer.{Offer}
+use Rattle.std.specs.Prelude.{Some, None}
 use Rattle.tick.specs.declared.Answer.TheVariants.{Ran}
 use Rattle.tick.proofs.Decided.{both_words}
 use Rattle.tick.proofs.Steps.{free_tick}
@@ -23,12 +23,12 @@ use Rattle.run.specs.Ready.{Unrefused, CarriedOutIsTheTick}
 
 -- inhibit, I and in-service, in the order of the code's test
 none_due : (inhibit flag service : Bool) (o : Offer) → pick (offers o) (flag && not service && not inhibit) false ≡ false
-    → pick inhibit Nothing (pick flag (pick service Nothing o) Nothing) ≡ Nothing
+    → pick inhibit None (pick flag (pick service None o) None) ≡ None
 none_due true flag service o h = refl
 none_due false false service o h = refl
 none_due false true true o h = refl
-none_due false true false (Vector v) h = clash h
-none_due false true false Nothing h = refl
+none_due false true false (Some v) h = clash h
+none_due false true false None h = refl
 
 module _ (rs : List ℕ) (pc sp s : ℕ) (inhibit service chip : Bool) (p m : List ℕ) (o : Offer) where
   abbrev k : Core
@@ -41,7 +41,7 @@ module _ (rs : List ℕ) (pc sp s : ℕ) (inhibit service chip : Bool) (p m : Li
   abbrev op : Instruction
   op = decode_of (program_word_of p pc) (program_word_of p (pc + 1))
 
-  undue : pick (offers o) (bit s 7 && not service && not inhibit) false ≡ false → due k o ≡ Nothing
+  undue : pick (offers o) (bit s 7 && not service && not inhibit) false ≡ false → due k o ≡ None
   unfolding with_pc with_sp with_busy with_inhibit with_service with_chip
   undue h = none_due inhibit (bit s 7) service o h
 

@@ -10,7 +10,7 @@ use Rattle.execute.specs.declared.Done.{Done}
 use Rattle.execute.specs.declared.Done.TheVariants as done
 use Rattle.tick.specs.Tick.{Tick, number_of, refuses, stops, answer_of, tick_of}
 use Rattle.tick.proofs.Steps.{every_tick, performed}
-use Rattle.tick.specs.declared.Offer.{Offer}
+use Rattle.tick.specs.Offer.{Offer}
 use Rattle.tick.specs.declared.Answer.{Answer}
 use Rattle.tick.specs.declared.Answer.TheVariants.{Ran}
 use Rattle.invariants.specs.Ticks.{Offered}

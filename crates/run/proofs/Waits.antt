@@ -5,7 +5,7 @@ use Rattle.basis.proofs.Choice.{test}
 use Rattle.cores.specs.declared.Core.{Core}
 use Rattle.cores.specs.State.{with_busy}
 use Rattle.tick.specs.Tick.{refuses, stops}
-use Rattle.tick.specs.declared.Offer.{Offer}
+use Rattle.tick.specs.Offer.{Offer}
 use Rattle.tick.proofs.Steps.{busy_tick}
 use Rattle.run.specs.Run.{after, run_of}
 use Rattle.run.specs.Lent.{rest_of, WaitsAtOnce}

@@ -5,16 +5,16 @@ use Rattle.basis.specs.Pick.{pick}
 use Rattle.cores.specs.declared.Core.{Core}
 use Rattle.cores.specs.State.{with_busy}
 use Rattle.tick.specs.Tick.{gives, tick_of}
-use Rattle.tick.specs.declared.Offer.{Offer}
-use Rattle.tick.specs.declared.Offer.TheVariants.{Vector, Nothing}
+use Rattle.tick.specs.Offer.{Offer}
+use Rattle.std.specs.Prelude.{Some, None}
 use Rattle.tick.specs.declared.Answer.TheVariants.{Ran}
 use Rattle.effects.specs.Parts.{stood, cored}
 use Rattle.run.specs.Run.{Run, after, run_of}
 use Rattle.run.specs.declared.go.Gone.{Gone}
 
 abbrev pub offers : Offer → Bool
-offers (Vector v) = true
-offers Nothing = false
+offers (Some v) = true
+offers None = false
 
 -- what a run of b ticks gives, where k waits no longer at the tick `at`; where the budget ends before, k still waits
 abbrev pub rest_of : ℕ → ℕ → Core → List ℕ → List ℕ → Offer → Run

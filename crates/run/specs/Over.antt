@@ -3,7 +3,7 @@ use Rattle.std.specs.Prelude.{◌≡◌, ℕ, ◌-◌, ◌<◌, ◌≤◌, Bool,
 use Rattle.basis.specs.Pick.{pick}
 use Rattle.cores.specs.declared.Core.{Core}
 use Rattle.tick.specs.Tick.{Tick, number_of, tick_of}
-use Rattle.tick.specs.declared.Offer.{Offer}
+use Rattle.tick.specs.Offer.{Offer}
 use Rattle.tick.specs.declared.Answer.{Answer}
 use Rattle.tick.specs.declared.Answer.TheVariants.{Ran}
 use Rattle.snapshot.specs.Snapshot.{read_of, write_of}

@@ -12,7 +12,7 @@ use Rattle.execute.specs.Needs.{refusal, needs}
 use Rattle.execute.specs.Execute.{executed, done_of}
 use Rattle.execute.specs.declared.Done.TheVariants as done
 use Rattle.tick.specs.Tick.{gives, tick_of}
-use Rattle.tick.specs.declared.Offer.{Offer}
+use Rattle.tick.specs.Offer.{Offer}
 use Rattle.tick.specs.declared.Answer.TheVariants.{Ran}
 use Rattle.effects.specs.Parts.{stood, cored}
 use Rattle.run.specs.Lent.{offers}

@@ -6,7 +6,7 @@ use Rattle.instruction.specs.Decode.{decode_of}
 use Rattle.instruction.specs.declared.Instruction.{Instruction}
 use Rattle.cores.specs.declared.Core.{Core}
 use Rattle.tick.specs.Tick.{Tick, number_of, refuses, stops, ticked, tick_of}
-use Rattle.tick.specs.declared.Offer.{Offer}
+use Rattle.tick.specs.Offer.{Offer}
 use Rattle.run.specs.declared.Ran as code
 
 -- what a run gives: an answer's number, the count of ticks done, a core and the bytes of data

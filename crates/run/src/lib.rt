@@ -5,7 +5,6 @@ ghost use Rattle.std.specs.Prelude.{◌≡◌};
 ghost use Rattle.run.specs.Run.{run_of, Runs};
 
 use cores::Core;
-use tick::Offer;
 
 mod go;
 mod over;
@@ -26,7 +25,7 @@ const BUDGET: u8 = 24;
 
 const TOO_BUSY: u8 = 5;
 
-pub fn run(core: Core, program: &[u8], data: &mut [u8], offer: Offer, budget: u32) -> Ran
+pub fn run(core: Core, program: &[u8], data: &mut [u8], offer: Option<u16>, budget: u32) -> Ran
     ensures { Runs (run_of budget core program.now «data».old offer) result «data».new }
 {
     if budget == 0 {

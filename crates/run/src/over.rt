@@ -6,7 +6,7 @@ ghost use Rattle.run.specs.Over.{ended_by, TickedOver, Stretches, Advances, tick
 
 use crate::go::go;
 use crate::settling::{flags, leave, word_at};
-use tick::{Answer, Offer};
+use tick::Answer;
 
 // The number of an answer, and the ticks done.
 #[derive(Clone, Copy)]
@@ -21,17 +21,17 @@ const RAN: u8 = 18;
 
 const BUDGET: u8 = 24;
 
-fn offered(offer: Offer) -> bool
+fn offered(offer: Option<u16>) -> bool
     ensures { result ≡ offers offer }
 {
     match offer {
-        Offer::Vector(_) => true,
-        Offer::Nothing => false,
+        Some(_) => true,
+        None => false,
     }
 }
 
 // A whole tick, by the two operations, of which `ready` and `effect` are the short form.
-fn whole(snapshot: &mut [u8], program: &[u8], data: &mut [u8], offer: Offer) -> Answer
+fn whole(snapshot: &mut [u8], program: &[u8], data: &mut [u8], offer: Option<u16>) -> Answer
     ensures { TickedOver snapshot.old program.now «data».old offer result snapshot.new «data».new }
 {
     let read = snapshot::read(snapshot);
@@ -82,7 +82,7 @@ fn stretch(
 }
 
 // A run of at least one tick, where the bytes are read.
-fn advance(snapshot: &mut [u8], program0: &[u8], data: &mut [u8], offer: Offer, budget: u32) -> Over
+fn advance(snapshot: &mut [u8], program0: &[u8], data: &mut [u8], offer: Option<u16>, budget: u32) -> Over
     requires { ((read_of snapshot.old).refusal ≡ 0) × (0 < budget) }
     ensures { Advances snapshot.old program0.now «data».old offer budget result snapshot.new «data».new }
 {
@@ -145,7 +145,7 @@ fn refused(snapshot: &[u8]) -> u8
 }
 
 // A tick: the answer's number, or a check's. A refused call changes no byte.
-pub fn tick_in(snapshot: &mut [u8], program: &[u8], data: &mut [u8], offer: Offer) -> u8
+pub fn tick_in(snapshot: &mut [u8], program: &[u8], data: &mut [u8], offer: Option<u16>) -> u8
     ensures { TicksIn (tick_in snapshot.old program.now «data».old offer) result snapshot.new «data».new }
 {
     let refusal = refused(snapshot);
@@ -165,7 +165,7 @@ pub fn run_in(
     snapshot: &mut [u8],
     program: &[u8],
     data: &mut [u8],
-    offer: Offer,
+    offer: Option<u16>,
     budget: u32,
 ) -> Over
     ensures { RunsIn (run_in snapshot.old program.now «data».old offer budget) result snapshot.new «data».new }

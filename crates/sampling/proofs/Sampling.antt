@@ -19,8 +19,8 @@ use Rattle.cores.specs.State.{fresh_of, with_reg, with_pc, with_sp, with_busy, w
 use Rattle.cores.specs.Transfer.{reach_of, data_of, set_data_of, pointed_of, word_if}
 use Rattle.execute.specs.Needs.{needs, fetched, with_fetch}
 use Rattle.execute.specs.Execute.{executed}
-use Rattle.tick.specs.declared.Offer.{Offer}
-use Rattle.tick.specs.declared.Offer.TheVariants.{Vector, Nothing}
+use Rattle.tick.specs.Offer.{Offer}
+use Rattle.std.specs.Prelude.{Some, None}
 use Rattle.tick.specs.declared.Answer.TheVariants.{Ran}
 use Rattle.tick.specs.Tick.{gives, decided, due, executed_tick, stepped, enters_or_steps, ticked, tick_of, number_of}
 use Rattle.tick.proofs.Steps.{free_tick, onward, performed, every_tick}
@@ -29,22 +29,22 @@ use Rattle.sampling.specs.Sampling.{AtSei, behind, SafeAfterSei, SamplingRoutine
 
 -- ---- a core that is not busy, where nothing is due
 module _ (k : Core) (p m : List ℕ) (b : k.busy ≡ 0) where
-  undue : (o : Offer) → due k o ≡ Nothing → tick_of k p m o ≡ enters_or_steps decode_of k p m Nothing
+  undue : (o : Offer) → due k o ≡ None → tick_of k p m o ≡ enters_or_steps decode_of k p m None
   undue o d = free_tick k p m o b ∙ ap (enters_or_steps decode_of k p m) d
 
-  goes_on : (o : Offer) → due k o ≡ Nothing → let n = number_of (tick_of k p m o).answer in (n ≤ 5) ⊎ (18 ≤ n)
+  goes_on : (o : Offer) → due k o ≡ None → let n = number_of (tick_of k p m o).answer in (n ≤ 5) ⊎ (18 ≤ n)
   goes_on o d =
       every_tick decode_of (λ t. (number_of t.answer ≤ 5) ⊎ (18 ≤ number_of t.answer)) k p m o
       (λ n g l. inl l)
       (λ g l. absurd (omega arith))
-      (λ z v e r. let c : Vector v ≡ Nothing = sym e ∙ d in let f : true ≡ false = cc in clash f)
+      (λ z v e r. let c : Some v ≡ None = sym e ∙ d in let f : true ≡ false = cc in clash f)
       (λ z e l. inr (omega arith))
       λ z e l r. inr (omega (arith, done_number (performed decode_of k p m).done))
 
 -- ---- SEI
 module _ (k : Core) (p m : List ℕ) (a : AtSei k p) where
-  disabled_due : (o : Offer) → due k o ≡ Nothing
-  disabled_due o = rw a.disabled (either (λ o. o ≡ Nothing) k.inhibit Nothing Nothing refl refl)
+  disabled_due : (o : Offer) → due k o ≡ None
+  disabled_due o = rw a.disabled (either (λ o. o ≡ None) k.inhibit None None refl refl)
 
   abbrev step_of : Instruction → Type 0
   step_of op = decided (with_fetch (fetched p k.pc op) (needs decode_of (onward k) op p m)) k m (executed_tick (executed decode_of (onward k) op p m)) ≡ gives Ran (behind k) m
@@ -53,12 +53,12 @@ module _ (k : Core) (p m : List ℕ) (a : AtSei k p) where
   unfolding with_pc with_inhibit
   sei_step = rw (a.there, a.chip)
 
-  sei_tick : enters_or_steps decode_of k p m Nothing ≡ gives Ran (behind k) m
+  sei_tick : enters_or_steps decode_of k p m None ≡ gives Ran (behind k) m
   unfolding enters_or_steps stepped with_inhibit
   sei_tick = rw (ne_eqb k.pc 65535 (omega (arith, a.below))) (subst step_of (sym a.sei) sei_step)
 
 -- ---- and behind it
-behind_due : (k : Core) (o : Offer) → due (behind k) o ≡ Nothing
+behind_due : (k : Core) (o : Offer) → due (behind k) o ≡ None
 unfolding with_inhibit
 behind_due k o = refl
 
@@ -71,7 +71,7 @@ safe_after_sei k p m o next a =
     let b = behind_ready k a.ready in
     record {
       sei_runs = undue k p m a.ready o (disabled_due k p m a o) ∙ sei_tick k p m a;
-      as_unoffered = undue (behind k) p m b next (behind_due k next) ∙ sym (undue (behind k) p m b Nothing (behind_due k Nothing));
+      as_unoffered = undue (behind k) p m b next (behind_due k next) ∙ sym (undue (behind k) p m b None (behind_due k None));
       runs_first = goes_on (behind k) p m b next (behind_due k next);
     }
 

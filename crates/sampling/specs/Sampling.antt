@@ -9,8 +9,8 @@ use Rattle.memory.specs.Memory.{has_word_of}
 use Rattle.cores.specs.declared.Core.{Core}
 use Rattle.cores.specs.State.{reg, flag, fresh_of, with_reg, with_sreg, with_pc, with_inhibit, with_chip}
 use Rattle.cores.specs.Flow.{op_at}
-use Rattle.tick.specs.declared.Offer.{Offer}
-use Rattle.tick.specs.declared.Offer.TheVariants.{Vector, Nothing}
+use Rattle.tick.specs.Offer.{Offer}
+use Rattle.std.specs.Prelude.{Some, None}
 use Rattle.tick.specs.declared.Answer.TheVariants.{Ran}
 use Rattle.tick.specs.Tick.{gives, number_of, tick_of}
 use Rattle.run.specs.Run.{after_ticks, tick_after}
@@ -34,7 +34,7 @@ pub record Safe (k : Core) (p m : List ℕ) (o next : Offer) : Type 0 where
   -- the first runs SEI
   pub sei_runs : tick_of k p m o ≡ gives Ran (behind k) m
   -- the second is as if nothing were offered
-  pub as_unoffered : tick_of (behind k) p m next ≡ tick_of (behind k) p m Nothing
+  pub as_unoffered : tick_of (behind k) p m next ≡ tick_of (behind k) p m None
   -- and neither enters nor waits: it executes the instruction behind SEI (18 to 22), or ends at PC 65,535 (23), or is refused
   pub runs_first : let n = number_of (tick_of (behind k) p m next).answer in (n ≤ 5) ⊎ (18 ≤ n)
 
@@ -59,10 +59,10 @@ bytes = 5 ∷ replicate 15 0
 
 -- the answer of tick t, counted from 0, with the handler's vector offered all the time; and core and data before it
 abbrev pub answer_at : Bool → ℕ → ℕ
-answer_at chip t = number_of (tick_after t (start chip) program bytes (Vector 2)).answer
+answer_at chip t = number_of (tick_after t (start chip) program bytes (Some 2)).answer
 
 abbrev pub before : Bool → ℕ → Core × List ℕ
-before chip t = after_ticks t (start chip) program bytes (Vector 2)
+before chip t = after_ticks t (start chip) program bytes (Some 2)
 
 -- the sample in data, and the sample that the handler has taken
 abbrev pub sample : Core × List ℕ → ℕ

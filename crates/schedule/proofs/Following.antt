@@ -12,7 +12,7 @@ use borrow.Author.Tests.{eq-eqb, ne_eqb, eqb-true, eqb-false}
 use Rattle.basis.specs.Bytes.{Bytes}
 use Rattle.basis.proofs.Choice.{clash, test}
 use Rattle.snapshot.specs.Snapshot.{read_of}
-use Rattle.tick.specs.declared.Offer.TheVariants.{Nothing}
+use Rattle.std.specs.Prelude.{None}
 use Rattle.run.specs.Over.{run_in, RunsIn}
 use Rattle.run.specs.declared.over.Over.{Over}
 use Rattle.schedule.specs.Schedule.{Record, record_at, records_from, records_of, rising, Scheduled, stopped, scheduled, numbers_of}
@@ -136,7 +136,7 @@ module _ {s₀ p m₀ l : List ℕ} {from b : ℕ} {k s m e : List ℕ} {i done 
 
 -- ---- no record is left, and what is left of the budget is run with no offer
 module _ {s₀ p m₀ l : List ℕ} {from b : ℕ} {k s m e : List ℕ} {i done : ℕ} (z : Stands s₀ p m₀ l from b k s m e i done) (end : length l / 5 ≤ i) (bp : Bytes p)
-    (a : Over) (s' m' : List ℕ) (w : RunsIn (run_in s p m Nothing (b - done)) a s' m') where
+    (a : Over) (s' m' : List ℕ) (w : RunsIn (run_in s p m None (b - done)) a s' m') where
   abbrev quiet : Quiet
   quiet =
       record {

@@ -14,8 +14,8 @@ use Rattle.basis.specs.Bit.{one}
 use Rattle.basis.proofs.Choice.{clash, test}
 use Rattle.cores.specs.declared.Core.{Core}
 use Rattle.tick.specs.Tick.{Tick, number_of, refuses, stops, tick_of}
-use Rattle.tick.specs.declared.Offer.{Offer}
-use Rattle.tick.specs.declared.Offer.TheVariants.{Vector, Nothing}
+use Rattle.tick.specs.Offer.{Offer}
+use Rattle.std.specs.Prelude.{Some, None}
 use Rattle.tick.specs.declared.Answer.{Answer}
 use Rattle.tick.specs.declared.Answer.TheVariants.{Refused, Waited, Entered, Ran, Sleep, Watchdog, Undefined, Break, End}
 use Rattle.tick.proofs.Steps.{refused_keeps}
@@ -90,15 +90,15 @@ is_entered End h e = clash (sym e)
 -- the first of ds is due, and offered
 abbrev FirstDue : ℕ → List Record → Type 0
 FirstDue j [] = ⊥
-FirstDue j (d ∷ ds) = (d.tick ≤ suc j) × (offered (suc j) (d ∷ ds) ≡ Vector d.vector)
+FirstDue j (d ∷ ds) = (d.tick ≤ suc j) × (offered (suc j) (d ∷ ds) ≡ Some d.vector)
 
 first_due : (k : Core) (p m : List ℕ) (j last : ℕ) (ds : List Record) → rising last ds ≡ true → eqb (number_of (tick_of k p m (offered (suc j) ds)).answer) 17 ≡ true → FirstDue j ds
-first_due k p m j last [] r e = clash (sym e ∙ (by_number k p m Nothing).unoffered refl)
+first_due k p m j last [] r e = clash (sym e ∙ (by_number k p m None).unoffered refl)
 first_due k p m j last (d ∷ ds) r e =
     test (leb d.tick (suc j))
     (λ z. (leb-true d.tick (suc j) z, rw z))
     λ z. let rest = (above last last d ds (ltb last d.tick) refl (omega arith) r).1 in
-    let none : offered (suc j) (d ∷ ds) ≡ Nothing = rw z (not_due (suc j) d.tick ds (omega (arith, leb-false d.tick (suc j) z)) rest) in
+    let none : offered (suc j) (d ∷ ds) ≡ None = rw z (not_due (suc j) d.tick ds (omega (arith, leb-false d.tick (suc j) z)) rest) in
     clash (sym e ∙ (by_number k p m (offered (suc j) (d ∷ ds))).unoffered none)
 
 rest_rises : (last : ℕ) (ds : List Record) → rising last ds ≡ true → (next : ℕ) × (rising next (drop 1 ds) ≡ true)
@@ -147,7 +147,7 @@ module _ (v : ℕ → Offer) (k₀ : Core) (p m₀ : List ℕ) where
   pub record Entry (d : Record) (behind many : ℕ) : Type 0 where
     pub in_run : behind < many
     pub due : d.tick ≤ suc behind
-    pub offers : v (suc behind) ≡ Vector d.vector
+    pub offers : v (suc behind) ≡ Some d.vector
     pub answer : (tick behind).answer ≡ Entered
 
   -- the numbers of ds: entries that rise, and then 0

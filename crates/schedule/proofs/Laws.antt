@@ -15,8 +15,8 @@ use Rattle.basis.specs.Pick.{pick}
 use Rattle.basis.proofs.Choice.{cases}
 use Rattle.cores.specs.declared.Core.{Core}
 use Rattle.tick.specs.Tick.{Tick, number_of, refuses, stops, tick_of}
-use Rattle.tick.specs.declared.Offer.{Offer}
-use Rattle.tick.specs.declared.Offer.TheVariants.{Vector, Nothing}
+use Rattle.tick.specs.Offer.{Offer}
+use Rattle.std.specs.Prelude.{Some, None}
 use Rattle.run.specs.Run.{after, run_of}
 use Rattle.schedule.specs.Schedule.{Record, record_at, records_from, records_of, rising, refusal_of, offered, Scheduled, stopped, noted, scheduled, numbers_of, Schedule}
 use Rattle.schedule.specs.Laws.{after_by, offers, x, SingleTicks, SchedulesAreTicks, NumbersWritten, EmptyListIsARun, SameScheduleUnderLargerBudget}
@@ -106,7 +106,7 @@ module _ (b : ℕ) (k : Core) (p m l : List ℕ) (h : rising 0 (records_of l) �
         each = λ i g. elim (each v k p m 0 y.run.count l 0 (length l / 5) y.entries all.marked i g) [
           | inl z ↦ inl z
           | inr (behind, (z, entry)) ↦ let same = zero-add i in
-              inr (behind, record { number = z; in_run = entry.in_run; due = subst (λ (n : ℕ). (record_at l n).tick ≤ suc behind) same entry.due; offered = subst (λ (n : ℕ). v (suc behind) ≡ Vector (record_at l n).vector) same entry.offers; answer = entry.answer })
+              inr (behind, record { number = z; in_run = entry.in_run; due = subst (λ (n : ℕ). (record_at l n).tick ≤ suc behind) same entry.due; offered = subst (λ (n : ℕ). v (suc behind) ≡ Some (record_at l n).vector) same entry.offers; answer = entry.answer })
         ];
         only = λ j g z. let (i, (low, is)) = all.only j (omega arith) g z in (i, (omega (arith, low, many), is));
         as_many = omega (arith, all.as_many);
@@ -134,10 +134,10 @@ numbers_written b k p m l e h =
     )
 
 -- ---- an empty list
-empty : (b : ℕ) (k : Core) (p m : List ℕ) → scheduled b 0 k p m [] ≡ stopped (run_of b k p m Nothing) []
+empty : (b : ℕ) (k : Core) (p m : List ℕ) → scheduled b 0 k p m [] ≡ stopped (run_of b k p m None) []
 unfolding scheduled
 empty b k p m =
-    let r = run_of b k p m Nothing in
+    let r = run_of b k p m None in
     let more : b + 0 ≡ b = add-zero b in
     let count : 0 + r.count ≡ r.count = omega arith in
     ap (λ (n : ℕ). scheduled n 0 k p m []) (sym more) ∙ quiet b 0 0 k p m [] (λ _ _ _. refl)

@@ -11,7 +11,7 @@ use Rattle.basis.specs.Bytes.{Bytes}
 use Rattle.basis.proofs.Choice.{clash, cases}
 use Rattle.cores.specs.declared.Core.{Core}
 use Rattle.tick.specs.Tick.{Tick, refuses, stops, tick_of}
-use Rattle.tick.specs.declared.Offer.TheVariants.{Nothing}
+use Rattle.std.specs.Prelude.{None}
 use Rattle.snapshot.specs.Snapshot.{read_of, write_of}
 use Rattle.snapshot.proofs.RoundTrips.{reading_undoes_writing}
 use Rattle.run.specs.Run.{Run, ran, run_of}
@@ -32,17 +32,17 @@ record Ends (b : ℕ) (r : Run) : Type 0 where
   whole : r.answer ≡ 24 → r.count ≡ b
   apart : eqb r.answer 17 ≡ false
 
-ends_step : (refused ends : Bool) (t : Tick) (b : ℕ) (r : Run) → ByNumber Nothing t → Ends b r → Ends (suc b) (step refused ends t r)
+ends_step : (refused ends : Bool) (t : Tick) (b : ℕ) (r : Run) → ByNumber None t → Ends b r → Ends (suc b) (step refused ends t r)
 ends_step true ends t b r n e = record { few = omega arith; whole = λ z. clash (sym (eq-eqb _ 24 z) ∙ n.unspent); apart = n.unoffered refl }
 ends_step false true t b r n e = record { few = omega arith; whole = λ z. clash (sym (eq-eqb _ 24 z) ∙ n.unspent); apart = n.unoffered refl }
 ends_step false false t b r n e = record { few = omega (arith, e.few); whole = λ z. omega (arith, e.whole z); apart = e.apart }
 
-run_ends : (b : ℕ) (k : Core) (p m : List ℕ) → Ends b (run_of b k p m Nothing)
+run_ends : (b : ℕ) (k : Core) (p m : List ℕ) → Ends b (run_of b k p m None)
 unfolding ran
 run_ends zero k p m = record { few = omega arith; whole = λ _. refl; apart = refl }
 run_ends (suc b) k p m =
-    let t = tick_of k p m Nothing in
-    ends_step (refuses t.answer) (stops t.answer) t b (run_of b t.core p t.bytes Nothing) (by_number k p m Nothing) (run_ends b t.core p t.bytes)
+    let t = tick_of k p m None in
+    ends_step (refuses t.answer) (stops t.answer) t b (run_of b t.core p t.bytes None) (by_number k p m None) (run_ends b t.core p t.bytes)
 
 -- ---- over a snapshot: u ticks with no offer from s to s' and from m to m', where the checks are passed
 pub record Quiet : Type 0 where
@@ -57,16 +57,16 @@ pub record Quiet : Type 0 where
   pub snapshot_bytes : Bytes s
   pub program_bytes : Bytes p
   pub data_bytes : Bytes m
-  pub runs : RunsIn (run_in s p m Nothing u) a s' m'
+  pub runs : RunsIn (run_in s p m None u) a s' m'
 
 module _ (Q : Quiet) where
   open Q use {u, s, p, m, s', m', a, read, snapshot_bytes, program_bytes, data_bytes, runs}
 
   abbrev r : Run
-  r = run_of u (said_by s) p m Nothing
+  r = run_of u (said_by s) p m None
 
-  is : run_in s p m Nothing u ≡ record { answer = r.answer; count = r.count; snapshot = (write_of r.core s).bytes; bytes = r.bytes }
-  is = run_in_passed s p m Nothing u (eq-eqb (read_of s).refusal 0 read)
+  is : run_in s p m None u ≡ record { answer = r.answer; count = r.count; snapshot = (write_of r.core s).bytes; bytes = r.bytes }
+  is = run_in_passed s p m None u (eq-eqb (read_of s).refusal 0 read)
 
   answered : a.answer ≡ r.answer
   answered = runs.answer ∙ ap (λ x. x.answer) is
@@ -80,7 +80,7 @@ module _ (Q : Quiet) where
   pub ran_read : read_of s' ≡ record { refusal = 0; core = r.core }
   ran_read =
       ap read_of (runs.snapshot ∙ ap (λ x. x.snapshot) is)
-      ∙ reading_undoes_writing r.core s (run_sound u (said_by s) p m Nothing (said_sound s snapshot_bytes read) program_bytes data_bytes tt) (long s read)
+      ∙ reading_undoes_writing r.core s (run_sound u (said_by s) p m None (said_sound s snapshot_bytes read) program_bytes data_bytes tt) (long s read)
 
   pub few : a.ticks ≤ u
   few = omega (arith, counted, (run_ends u (said_by s) p m).few)
@@ -97,7 +97,7 @@ module _ (Q : Quiet) where
   core = ap (λ x. x.core) ran_read
 
   -- with `done` of b ticks done, where none of ds is due in the next u ticks
-  module _ (b done : ℕ) (ds : List Record) (fits : done + u ≤ b) (none : (tick : ℕ) → done < tick → tick ≤ done + u → offered tick ds ≡ Nothing) where
+  module _ (b done : ℕ) (ds : List Record) (fits : done + u ≤ b) (none : (tick : ℕ) → done < tick → tick ≤ done + u → offered tick ds ≡ None) where
     begun : rest_from b done s p m ds ≡ scheduled (u + (b - done - u)) done (said_by s) p m ds
     begun = let more : b - done ≡ u + (b - done - u) = omega arith in ap (λ (z : ℕ). scheduled z done (said_by s) p m ds) more
 
@@ -133,7 +133,7 @@ module _ (tick done b : ℕ) where
       cases (λ z. done + z < b → tick ≤ suc (done + z)) (ltb b tick) (b - done) (tick - 1 - done) (λ _ g. absurd (omega arith)) (λ _ g. omega arith)
 
   -- and neither it nor one behind it is due before
-  pub none_before : (d : Record) (ds : List Record) → d.tick ≡ tick → rising d.tick ds ≡ true → done ≤ b → (x : ℕ) → done < x → x ≤ done + u → offered x (d ∷ ds) ≡ Nothing
+  pub none_before : (d : Record) (ds : List Record) → d.tick ≡ tick → rising d.tick ds ≡ true → done ≤ b → (x : ℕ) → done < x → x ≤ done + u → offered x (d ∷ ds) ≡ None
   none_before d ds e f h x g i =
       let early : x < tick = cases (λ z. x ≤ done + z → x < tick) (ltb b tick) (b - done) (tick - 1 - done) (λ y j. omega (arith, ltb-true b tick y)) (λ y j. omega arith) i in
       rw (lt-leb d.tick x (omega (arith, e, early))) (not_due x d.tick ds (omega (arith, e, early)) f)

@@ -16,8 +16,8 @@ use Rattle.instruction.specs.Decode.{decode_of}
 use Rattle.execute.specs.declared.Done.{Done}
 use Rattle.execute.specs.declared.Done.TheVariants as done
 use Rattle.tick.specs.Tick.{Tick, number_of, refuses, stops, answer_of, due, tick_of}
-use Rattle.tick.specs.declared.Offer.{Offer}
-use Rattle.tick.specs.declared.Offer.TheVariants.{Nothing}
+use Rattle.tick.specs.Offer.{Offer}
+use Rattle.std.specs.Prelude.{None}
 use Rattle.tick.proofs.Steps.{every_tick, every_due, performed}
 use Rattle.run.specs.Run.{Run, ended, after, ran, run_of}
 use Rattle.run.specs.Lent.{offers}
@@ -28,7 +28,7 @@ use Rattle.schedule.specs.Schedule.{Record, rising, offered, Scheduled, stopped,
 pub record ByNumber (o : Offer) (t : Tick) : Type 0 where
   pub refused : refuses t.answer ≡ ltb (number_of t.answer) 16
   pub ends : stops t.answer ≡ leb 22 (number_of t.answer)
-  pub unoffered : o ≡ Nothing → eqb (number_of t.answer) 17 ≡ false
+  pub unoffered : o ≡ None → eqb (number_of t.answer) 17 ≡ false
   pub unspent : eqb (number_of t.answer) 24 ≡ false
 
 done_number : (o : Offer) (d : Done) (k : Core) (m : List ℕ) → ByNumber o (record { answer = answer_of d; core = k; bytes = m })
@@ -38,7 +38,7 @@ done_number o done.Watchdog k m = record { refused = refl; ends = refl; unoffere
 done_number o done.Undefined k m = record { refused = refl; ends = refl; unoffered = λ _. refl; unspent = refl }
 done_number o done.Break k m = record { refused = refl; ends = refl; unoffered = λ _. refl; unspent = refl }
 
-none_due : (k : Core) (o : Offer) → o ≡ Nothing → offers (due k o) ≡ false
+none_due : (k : Core) (o : Offer) → o ≡ None → offers (due k o) ≡ false
 none_due k o e = every_due (λ x. offers x ≡ false) k o refl (λ _ _. ap offers e)
 
 pub by_number : (k : Core) (p m : List ℕ) (o : Offer) → ByNumber o (tick_of k p m o)
@@ -91,7 +91,7 @@ pub above : (tick last : ℕ) (d : Record) (ds : List Record) (b : Bool) → ltb
 above tick last d ds true e h r = (omega (arith, ltb-true last d.tick e), r)
 above tick last d ds false e h r = clash (sym r)
 
-pub not_due : (tick last : ℕ) (ds : List Record) → tick ≤ last → rising last ds ≡ true → offered tick ds ≡ Nothing
+pub not_due : (tick last : ℕ) (ds : List Record) → tick ≤ last → rising last ds ≡ true → offered tick ds ≡ None
 not_due tick last [] h r = refl
 not_due tick last (d ∷ ds) h r =
     let (over, rest) = above tick last d ds (ltb last d.tick) refl h r in
@@ -108,19 +108,19 @@ one_quiet true s left count t p ds x e y u h = rw (u, add-zero)
 one_quiet false true left count t p ds x e y u h = let one : count + 1 ≡ suc count = omega arith in rw (u, one)
 one_quiet false false left count t p ds x e y u h = let more : count + (1 + x.count) ≡ suc count + x.count = omega arith in rw more h
 
-pub quiet : (n left count : ℕ) (k : Core) (p m : List ℕ) (ds : List Record) → ((tick : ℕ) → count < tick → tick ≤ count + n → offered tick ds ≡ Nothing)
-    → scheduled (n + left) count k p m ds ≡ quietly left count (run_of n k p m Nothing) p ds
+pub quiet : (n left count : ℕ) (k : Core) (p m : List ℕ) (ds : List Record) → ((tick : ℕ) → count < tick → tick ≤ count + n → offered tick ds ≡ None)
+    → scheduled (n + left) count k p m ds ≡ quietly left count (run_of n k p m None) p ds
 unfolding ran
 quiet zero left count k p m ds h = rw (add-zero, zero-add)
 quiet (suc n) left count k p m ds h =
     let none = h (suc count) (omega arith) (omega arith) in
-    let t = tick_of k p m Nothing in
-    let b = by_number k p m Nothing in
+    let t = tick_of k p m None in
+    let b = by_number k p m None in
     let same : tick_of k p m (offered (suc count) ds) ≡ t = ap (λ o. tick_of k p m o) none in
     let more : suc n + left ≡ suc (n + left) = omega arith in
     ap (λ (z : ℕ). scheduled z count k p m ds) more ∙ one_tick (n + left) count k p m ds
     ∙ ap (λ (z : Tick). step_by (refuses z.answer) (stops z.answer) (eqb (number_of z.answer) 17) count z ds (scheduled (n + left) (suc count) z.core p z.bytes (drop 1 ds)) (scheduled (n + left) (suc count) z.core p z.bytes ds)) same
     ∙ ap (λ e. step_by (refuses t.answer) (stops t.answer) e count t ds (scheduled (n + left) (suc count) t.core p t.bytes (drop 1 ds)) (scheduled (n + left) (suc count) t.core p t.bytes ds)) (b.unoffered refl)
-    ∙ one_quiet (refuses t.answer) (stops t.answer) left count t p ds (run_of n t.core p t.bytes Nothing)
+    ∙ one_quiet (refuses t.answer) (stops t.answer) left count t p ds (run_of n t.core p t.bytes None)
     (scheduled (n + left) (suc count) t.core p t.bytes (drop 1 ds)) (scheduled (n + left) (suc count) t.core p t.bytes ds) b.unspent
     (quiet n left (suc count) t.core p t.bytes ds (λ tick f g. h tick (omega (arith, f)) (omega (arith, g))))

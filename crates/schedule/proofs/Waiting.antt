@@ -10,7 +10,7 @@ use lib.ListN.{length}
 use borrow.Author.Tests.{lt-ltb, le-ltb, le-leb, lt-leb, ne_eqb, eq-eqb}
 use Rattle.basis.specs.Bytes.{Bytes}
 use Rattle.tick.specs.Tick.{Tick, number_of, tick_of}
-use Rattle.tick.specs.declared.Offer.TheVariants.{Vector}
+use Rattle.std.specs.Prelude.{Some}
 use Rattle.snapshot.specs.Snapshot.{read_of}
 use Rattle.run.specs.Run.{ended}
 use Rattle.run.specs.Over.{said_by, tick_over, tick_in, TicksIn}
@@ -53,13 +53,13 @@ pub record Turn : Type 0 where
   pub program_bytes : Bytes p
   pub data_bytes : Bytes m
   pub word : vector < 65536
-  pub ticks : TicksIn (tick_in s p m (Vector vector)) n s' m'
+  pub ticks : TicksIn (tick_in s p m (Some vector)) n s' m'
 
 module _ (T : Turn) where
   open T use {b, done, vector, s, p, m, s', m', n, near, read, snapshot_bytes, program_bytes, data_bytes, word, ticks}
 
   abbrev t : Tick
-  t = tick_over s p m (Vector vector)
+  t = tick_over s p m (Some vector)
 
   abbrev number : ℕ
   number = number_of t.answer
@@ -74,7 +74,7 @@ module _ (T : Turn) where
   left = ticks.bytes ∙ rw passes
 
   pub next_said : read_of s' ≡ record { refusal = 0; core = t.core }
-  next_said = next_read s p m (Vector vector) read snapshot_bytes program_bytes data_bytes word (ticks.snapshot ∙ rw passes)
+  next_said = next_read s p m (Some vector) read snapshot_bytes program_bytes data_bytes word (ticks.snapshot ∙ rw passes)
 
   module _ (tick : ℕ) (ds : List Record) (due : tick ≤ suc done) where
     abbrev d : Record
@@ -89,7 +89,7 @@ module _ (T : Turn) where
     said : (x : List Record) → rest_from b (suc done) s' p m' x ≡ scheduled (b - suc done) (suc done) t.core p t.bytes x
     said x = ap (λ r. scheduled (b - suc done) (suc done) r.core p m' x) next_said ∙ ap (λ (z : List ℕ). scheduled (b - suc done) (suc done) t.core p z x) left
 
-    offers : offered (suc done) (d ∷ ds) ≡ Vector vector
+    offers : offered (suc done) (d ∷ ds) ≡ Some vector
     offers = rw (le-leb tick (suc done) due)
 
     by_tick : rest_from b done s p m (d ∷ ds) ≡ step_by (ltb n 16) (leb 22 n) (eqb n 17) done t (d ∷ ds) entering onward

@@ -15,7 +15,7 @@ use Rattle.basis.specs.Bytes.{Bytes}
 use Rattle.basis.proofs.Choice.{clash}
 use Rattle.cores.specs.declared.Core.{Core}
 use Rattle.tick.specs.Tick.{Tick, number_of, refuses, stops, tick_of}
-use Rattle.tick.specs.declared.Offer.TheVariants.{Nothing}
+use Rattle.std.specs.Prelude.{None}
 use Rattle.invariants.specs.Ticks.{TickNumber}
 use Rattle.invariants.proofs.Ticks.{ticks_answer_tick_numbers}
 use Rattle.snapshot.specs.Snapshot.{read_of, write_of}
@@ -136,7 +136,7 @@ list_number false r t h = refl
 module _ (s p m l : List ℕ) (b : ℕ) (e : List ℕ) where
   -- by the snapshot's refusal, as a run tells it
   read_number : eqb (read_of s).refusal 0 ≡ false → (leb 7 (read_of s).refusal && leb (read_of s).refusal 9) ≡ true
-  read_number h = sym (ap (λ r. over.of_check r.answer) (run_in_refused s p m Nothing 0 h)) ∙ check_told s p m Nothing 0 ∙ ap not h
+  read_number h = sym (ap (λ r. over.of_check r.answer) (run_in_refused s p m None 0 h)) ∙ check_told s p m None 0 ∙ ap not h
 
   number : (c : Bool) → eqb (read_of s).refusal 0 ≡ c → eqb (refusal_in s l (length e)) 0 ≡ false → of_check (refusal_in s l (length e)) ≡ true
   number true h f =

@@ -6,8 +6,8 @@ use Rattle.basis.specs.Pick.{pick}
 use Rattle.basis.specs.Bit.{one}
 use Rattle.cores.specs.declared.Core.{Core}
 use Rattle.tick.specs.Tick.{Tick, number_of, refuses, stops, tick_of}
-use Rattle.tick.specs.declared.Offer.{Offer}
-use Rattle.tick.specs.declared.Offer.TheVariants.{Vector, Nothing}
+use Rattle.tick.specs.Offer.{Offer}
+use Rattle.std.specs.Prelude.{Some, None}
 use Rattle.tick.specs.declared.Answer.TheVariants.{Entered}
 use Rattle.run.specs.Run.{Run, run_of}
 use Rattle.schedule.specs.Schedule.{Record, record_at, records_of, rising, refusal_of, Scheduled, scheduled, schedule_of}
@@ -59,9 +59,9 @@ how_many holds (suc j) = how_many holds j + one (holds j)
 -- ---- the offers
 -- "At every tick the earliest record that is due and not yet entered is offered": by the numbers, a record was entered before a tick where its number is not 0 and is lower
 abbrev pub offered_at : List Record → List ℕ → ℕ → Offer
-offered_at [] e tick = Nothing
+offered_at [] e tick = None
 offered_at (d ∷ ds) e tick =
-    pick (leb d.tick tick && not (ltb 0 (get_or e 0 0) && ltb (get_or e 0 0) tick)) (Vector d.vector) (offered_at ds (drop 1 e) tick)
+    pick (leb d.tick tick && not (ltb 0 (get_or e 0 0) && ltb (get_or e 0 0) tick)) (Some d.vector) (offered_at ds (drop 1 e) tick)
 
 -- how many of the numbers are not 0
 abbrev pub entered_in : List ℕ → ℕ
@@ -85,7 +85,7 @@ module _ (b : ℕ) (k : Core) (p m l : List ℕ) where
     pub number : number_at i ≡ suc behind
     pub in_run : behind < x.run.count
     pub due : (record_at l i).tick ≤ suc behind
-    pub offered : offers (suc behind) ≡ Vector (record_at l i).vector
+    pub offered : offers (suc behind) ≡ Some (record_at l i).vector
     pub answer : (tick_by offers k p m behind).answer ≡ Entered
 
   pub record SingleTicks : Type 0 where
@@ -113,7 +113,7 @@ NumbersWritten =
 
 -- ---- an empty list is a plain run with no offer
 abbrev pub EmptyListIsARun : Type 0
-EmptyListIsARun = (b : ℕ) (k : Core) (p m e : List ℕ) → schedule_of b k p m [] e ≡ record { run = run_of b k p m Nothing; numbers = e }
+EmptyListIsARun = (b : ℕ) (k : Core) (p m e : List ℕ) → schedule_of b k p m [] e ≡ record { run = run_of b k p m None; numbers = e }
 
 -- ---- a larger budget changes no run that ended by itself
 abbrev pub SameScheduleUnderLargerBudget : Type 0

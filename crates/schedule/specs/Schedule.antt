@@ -5,8 +5,8 @@ use Rattle.std.specs.Prelude.{Bool, true, false, ◌&&◌, ◌||◌, List, [], �
 use Rattle.basis.specs.Pick.{pick}
 use Rattle.cores.specs.declared.Core.{Core}
 use Rattle.tick.specs.Tick.{number_of, refuses, stops, tick_of}
-use Rattle.tick.specs.declared.Offer.{Offer}
-use Rattle.tick.specs.declared.Offer.TheVariants.{Vector, Nothing}
+use Rattle.tick.specs.Offer.{Offer}
+use Rattle.std.specs.Prelude.{Some, None}
 use Rattle.snapshot.specs.Snapshot.{read_of, write_of}
 use Rattle.run.specs.Run.{Run, ended}
 use Rattle.run.specs.Over.{RunIn, said_by}
@@ -45,8 +45,8 @@ refusal_of l room = pick (eqb (length l % 5) 0) (pick (rising 0 (records_of l)) 
 -- ---- the run
 -- "At every tick the earliest record that is due and not yet entered is offered." It is due at its tick and at every later one
 abbrev pub offered : ℕ → List Record → Offer
-offered tick [] = Nothing
-offered tick (d ∷ ds) = pick (leb d.tick tick) (Vector d.vector) (offered tick ds)
+offered tick [] = None
+offered tick (d ∷ ds) = pick (leb d.tick tick) (Some d.vector) (offered tick ds)
 
 -- what a scheduled run gives: answer, count, core and data as a run does, and "per record, the tick of its entry, or 0 where the run stopped before one"
 pub record Scheduled : Type 0 where

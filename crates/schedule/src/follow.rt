@@ -6,7 +6,6 @@ ghost use Rattle.schedule.specs.Follow.{until_of, Serves, Waits, Follows};
 
 use crate::list::{tick_at, vector_at};
 use run::Over;
-use tick::Offer;
 
 const ENTERED: u8 = 17;
 
@@ -45,7 +44,7 @@ fn wait(
 {
     let mut done = done0;
     while done < budget {
-        let number = run::tick_in(snapshot, program, data, Offer::Vector(vector));
+        let number = run::tick_in(snapshot, program, data, Some(vector));
         if number < 16 {
             return told(number, done);
         }
@@ -74,7 +73,7 @@ fn serve(
         snapshot,
         program,
         data,
-        Offer::Nothing,
+        None,
         until(tick, done, budget),
     );
     if ran.answer != BUDGET {
@@ -129,6 +128,6 @@ pub(crate) fn follow(
         entered[i] = done;
         i = i + 1;
     }
-    let ran = run::run_in(snapshot, program, data, Offer::Nothing, budget - done);
+    let ran = run::run_in(snapshot, program, data, None, budget - done);
     told(ran.answer, done + ran.ticks)
 }

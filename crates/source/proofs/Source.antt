@@ -12,8 +12,8 @@ use Rattle.instruction.specs.Decode.{decode_of}
 use Rattle.cores.specs.Flow.{op_at}
 use Rattle.cores.specs.declared.Core.{Core}
 use Rattle.cores.specs.State.{with_pc, with_busy, with_inhibit}
-use Rattle.tick.specs.declared.Offer.{Offer}
-use Rattle.tick.specs.declared.Offer.TheVariants.{Vector, Nothing}
+use Rattle.tick.specs.Offer.{Offer}
+use Rattle.std.specs.Prelude.{Some, None}
 use Rattle.tick.specs.declared.Answer.TheVariants.{Waited, Entered, End}
 use Rattle.execute.specs.Needs.{Needs, refusal, push_needs, needs, fetched, with_fetch}
 use Rattle.execute.specs.Execute.{executed}
@@ -47,9 +47,9 @@ stepped_low k j p m =
 
 enters_low : (k : Core) (p m : List ℕ) (o : Offer) (end : Bool) → eqb k.pc 65535 ≡ end → Low (enters_or_steps decode_of k p m o)
 unfolding enters_or_steps
-enters_low k p m (Vector v) end e = let o = entry k v m in decided_low (push_needs k m) k m (gives Entered o.core o.bytes) refl
-enters_low k p m Nothing true e = rw e (never (gives End (with_inhibit k false) m) refl)
-enters_low k p m Nothing false e = rw e (stepped_low k (with_inhibit k false) p m)
+enters_low k p m (Some v) end e = let o = entry k v m in decided_low (push_needs k m) k m (gives Entered o.core o.bytes) refl
+enters_low k p m None true e = rw e (never (gives End (with_inhibit k false) m) refl)
+enters_low k p m None false e = rw e (stepped_low k (with_inhibit k false) p m)
 
 ticked_low : (k : Core) (p m : List ℕ) (o : Offer) (b : Bool) → ltb 0 k.busy ≡ b → k.busy ≤ 4 → Low (tick_of k p m o)
 unfolding ticked

@@ -16,8 +16,8 @@ use Rattle.memory.specs.Memory.{has_word_of}
 use Rattle.cores.specs.Flow.{op_at}
 use Rattle.cores.specs.declared.Core.{Core}
 use Rattle.cores.specs.State.{Sound, out, with_pc, with_sp, with_busy, with_inhibit, with_service, flag}
-use Rattle.tick.specs.declared.Offer.{Offer}
-use Rattle.tick.specs.declared.Offer.TheVariants.{Vector, Nothing}
+use Rattle.tick.specs.Offer.{Offer}
+use Rattle.std.specs.Prelude.{Some, None}
 use Rattle.tick.specs.declared.Answer.TheVariants.{Entered, End}
 use Rattle.execute.specs.Needs.{Needs, refusal, push_needs, needs, fetched, with_fetch}
 use Rattle.execute.specs.Execute.{executed}
@@ -53,8 +53,8 @@ abbrev entered_tick : Core → ℕ → List ℕ → Tick
 entered_tick k v m = let o = entry k v m in gives Entered o.core o.bytes
 
 abbrev after_due : Self → Offer → Outcome Bool
-after_due s (Vector v) = pick (met (push_needs s.core s.ds)) (shown s (entered_tick s.core v s.ds)) panic
-after_due s Nothing = ok false (with_core s (with_inhibit s.core false))
+after_due s (Some v) = pick (met (push_needs s.core s.ds)) (shown s (entered_tick s.core v s.ds)) panic
+after_due s None = ok false (with_core s (with_inhibit s.core false))
 
 -- the two flags and the offer as variables, so that a clause can match on them
 abbrev self_with : Self → Bool → Bool → Offer → Self
@@ -66,9 +66,9 @@ unfolding handle_interrupts service_pending entered_by ds_write with_inhibit wit
 interrupts_by s true b c o y w = refl
 interrupts_by s false false c o y w = rw (flag_ok (self_with s false c o) 7 w.sreg_lt (omega arith), y)
 interrupts_by s false true true o y w = rw (flag_ok (self_with s false true o) 7 w.sreg_lt (omega arith), y)
-interrupts_by s false true false Nothing y w = rw (flag_ok (self_with s false false Nothing) 7 w.sreg_lt (omega arith), y)
-interrupts_by s false true false (Vector v) y w =
-    let u = self_with s false false (Vector v) in
+interrupts_by s false true false None y w = rw (flag_ok (self_with s false false None) 7 w.sreg_lt (omega arith), y)
+interrupts_by s false true false (Some v) y w =
+    let u = self_with s false false (Some v) in
     let pc = s.core.pc in
     rw (flag_ok u 7 w.sreg_lt (omega arith), y)
     (simp (after_pick, length-set, less_two, high_byte pc w.pc_lt)
@@ -137,8 +137,8 @@ module _ (s : Self) (c : s.core.chip ≡ false) (w : Sound s.core) (m : Bytes s.
 
   enters_or_steps_lem : (o : Offer) → after (after_due s o) (λ returned. pick returned (return true) execute) ≡ seen s (enters_or_steps decode_of s.core s.progmem s.ds o)
   unfolding enters_or_steps
-  enters_or_steps_lem (Vector v) = rw after_pick (sym (seen_decided s (push_needs s.core s.ds) (entered_tick s.core v s.ds) refl))
-  enters_or_steps_lem Nothing = execute_is (eqb s.core.pc 65535) refl
+  enters_or_steps_lem (Some v) = rw after_pick (sym (seen_decided s (push_needs s.core s.ds) (entered_tick s.core v s.ds) refl))
+  enters_or_steps_lem None = execute_is (eqb s.core.pc 65535) refl
 
   tick_by : (b : Bool) → ltb 0 s.core.busy ≡ b → tick s ≡ seen s (tick_of s.core s.progmem s.ds s.pending)
   unfolding tick ticked

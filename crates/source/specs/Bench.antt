@@ -2,17 +2,17 @@
 use Rattle.std.specs.Prelude.{◌≡◌, Bool, true, false, List, [], ◌∷◌, ℕ, ◌<◌, replicate, set}
 use Rattle.cores.specs.declared.Core.{Core}
 use Rattle.cores.specs.State.{Sound, fresh_of, with_reg, with_word, with_sreg, with_pc, with_sp, with_busy, with_inhibit, with_service}
-use Rattle.tick.specs.declared.Offer.TheVariants.{Vector, Nothing}
+use Rattle.std.specs.Prelude.{Some, None}
 use Rattle.source.specs.Monad.{ok, panic}
 use Rattle.source.specs.Tick.{tick}
 use Rattle.source.specs.Statement.{self_of}
 
 -- one tick of core k, program p and data m, with nothing offered: it leaves core j and data n, and returns b
 abbrev Ticks : Core → List ℕ → List ℕ → Bool → Core → List ℕ → Type 0
-Ticks k p m b j n = tick (self_of k p m Nothing) ≡ ok b (self_of j p n Nothing)
+Ticks k p m b j n = tick (self_of k p m None) ≡ ok b (self_of j p n None)
 
 abbrev Panics : Core → List ℕ → List ℕ → Type 0
-Panics k p m = tick (self_of k p m Nothing) ≡ panic
+Panics k p m = tick (self_of k p m None) ≡ panic
 
 -- without data
 abbrev Changes : Core → List ℕ → Core → Type 0
@@ -60,12 +60,12 @@ BenchOnTheRust =
     -- 12: entry at PC 0x1234, SP 0x0200
     × (let k = with_sreg (with_pc (fresh_of 0x0200) 0x1234) 0x80 in
     let m = zeros 0x0201 in
-    tick (self_of k [] m (Vector 6)) ≡ ok true (self_of (with_service (with_busy (with_pc (with_sp k 0x01FE) 6) 4) true) [] (set (set m 0x0200 0x34) 0x01FF 0x12) (Vector 6)))
+    tick (self_of k [] m (Some 6)) ≡ ok true (self_of (with_service (with_busy (with_pc (with_sp k 0x01FE) 6) 4) true) [] (set (set m 0x0200 0x34) 0x01FF 0x12) (Some 6)))
     -- 13: SBRS R0,0 (bit set) at PC 0 before a JMP
     × (let k = with_reg (fresh_of 0) 0 1 in Changes k (0x00 ∷ 0xFE ∷ 0x0C ∷ 0x94 ∷ []) (with_busy (with_pc k 3) 2))
     -- step 3: inhibit is cleared, and the offer waits
     × (let k = with_sreg (fresh_of 2) 0x80 in
-    tick (self_of (with_inhibit k true) (0 ∷ 0 ∷ []) (zeros 3) (Vector 6)) ≡ ok true (self_of (with_pc k 1) (0 ∷ 0 ∷ []) (zeros 3) (Vector 6)))
+    tick (self_of (with_inhibit k true) (0 ∷ 0 ∷ []) (zeros 3) (Some 6)) ≡ ok true (self_of (with_pc k 1) (0 ∷ 0 ∷ []) (zeros 3) (Some 6)))
 
 abbrev pub FreshCoresAreSound : Type 0
 FreshCoresAreSound = (sp : ℕ) → sp < 65536 → Sound (fresh_of sp)

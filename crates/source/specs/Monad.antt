@@ -4,7 +4,7 @@ use Rattle.std.specs.Prelude.{Bool, List, ℕ}
 use Rattle.basis.specs.Pick.{pick}
 use Rattle.cores.specs.declared.Core.{Core}
 use Rattle.cores.specs.State.{with_sreg, with_pc, with_sp, with_busy, with_inhibit, with_service}
-use Rattle.tick.specs.declared.Offer.{Offer}
+use Rattle.tick.specs.Offer.{Offer}
 
 -- cores.rs 29 to 41: the port's core, the bytes of the two memories, and what the interrupt sources have pending. `variant` and `debug` are left out
 pub record Self : Type 0 where

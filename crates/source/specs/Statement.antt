@@ -12,7 +12,7 @@ use Rattle.std.specs.Prelude.{◌≡◌, Bool, true, false, not, List, ℕ, ◌�
 use Rattle.basis.specs.Bytes.{Bytes}
 use Rattle.cores.specs.declared.Core.{Core}
 use Rattle.cores.specs.State.{Sound}
-use Rattle.tick.specs.declared.Offer.{Offer}
+use Rattle.tick.specs.Offer.{Offer}
 use Rattle.tick.specs.declared.Answer.{Answer}
 use Rattle.tick.specs.declared.Ticked.{Ticked}
 use Rattle.tick.specs.Tick.{Tick, gives, number_of, refuses, stops, tick_of, Ticks, in_place}

@@ -1,8 +1,8 @@
 -- `tick` of cores.rs, 1215 to 1373, statement by statement, and `service_pending` of cpuint.rs; printing is left out.
 -- What may `return` from the middle of `tick` is a part of its own here, which says whether it did.
 use Rattle.std.specs.Prelude.{Bool, true, false, ◌+◌, ltb}
-use Rattle.tick.specs.declared.Offer.{Offer}
-use Rattle.tick.specs.declared.Offer.TheVariants.{Vector, Nothing}
+use Rattle.tick.specs.Offer.{Offer}
+use Rattle.std.specs.Prelude.{Some, None}
 use Rattle.instruction.specs.declared.Instruction.{Instruction}
 use Rattle.instruction.specs.declared.Instruction.TheVariants.{ADC, ADD, ADIW, AND, ANDI, ASR, BCLR, BLD, BRBC, BRBS, BREAK, BSET, BST, CALL, CBI, COM, CP, CPC, CPI, CPSE, DEC, EOR, FMUL, FMULS, FMULSU, ICALL, IJMP, IN, INC, JMP, LDX, LDXinc, LDXdec, LDYinc, LDYdec, LDZinc, LDZdec, LDDY, LDDZ, LDI, LDS, LPM, LPMZ, LPMZinc, LSL, LSR, MOV, MOVW, MUL, MULS, MULSU, NEG, NOP, OR, ORI, OUT, POP, PUSH, RCALL, RET, RETI, RJMP, ROR, SBC, SBCI, SBI, SBIC, SBIS, SBIW, SBRC, SBRS, SLEEP, STX, STXdec, STXinc, STYdec, STYinc, STZdec, STZinc, STDY, STDZ, STS, SUB, SUBI, SWAP, WDR, UNDEF}
 use Rattle.source_decode.specs.RustDecode.{rust_decode}
@@ -20,16 +20,16 @@ use Rattle.source.specs.Transfer.{PointerRegister::X, PointerRegister::Y, Pointe
 unfoldable pub service_pending : Rust Offer
 service_pending = do
   lvl0ex ← self_lvl0ex
-  if' lvl0ex then return Nothing else (do
+  if' lvl0ex then return None else (do
     pending ← self_pending
     elim pending [
-      | Vector v ↦ (do lvl0ex= true; return (Vector v))
-      | Nothing ↦ return Nothing
+      | Some v ↦ (do lvl0ex= true; return (Some v))
+      | None ↦ return None
     ])
 
 -- 1235 to 1244, `if let Some(address) = vector`, and whether it returned from `tick`, with true
 unfoldable pub entered_by : Offer → Rust Bool
-entered_by (Vector address) = do
+entered_by (Some address) = do
   ds_write (← self_sp) (as_u8 (← self_pc))
   sp-= 1
   ds_write (← self_sp) (as_u8 (← (← self_pc) >>u16 8))
@@ -37,7 +37,7 @@ entered_by (Vector address) = do
   pc= address
   busy= 4
   return true
-entered_by Nothing = return false
+entered_by None = return false
 
 -- 1227 to 1246, HANDLE INTERRUPTS, and whether it returned from `tick`, with true
 unfoldable pub handle_interrupts : Rust Bool

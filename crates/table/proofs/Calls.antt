@@ -11,7 +11,7 @@ use lib.ListN.{get_or}
 use Rattle.basis.proofs.Choice.{clash, test}
 use Rattle.cores.specs.declared.Core.{Core}
 use Rattle.cores.specs.State.{read_register_of, set_register_of}
-use Rattle.tick.specs.declared.Offer.{Offer}
+use Rattle.tick.specs.Offer.{Offer}
 use Rattle.tick.specs.Tick.{Tick, number_of, refuses, stops, tick_of}
 use Rattle.run.specs.Run.{Run, ran, run_of, goes_on}
 use Rattle.run.proofs.Unroll.{step}

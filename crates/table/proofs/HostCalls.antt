@@ -12,7 +12,7 @@ use lib.ListN.{get_or}
 use Rattle.basis.proofs.Choice.{clash, test}
 use Rattle.basis.specs.Bytes.{Bytes}
 use Rattle.cores.specs.declared.Core.{Core}
-use Rattle.tick.specs.declared.Offer.{Offer}
+use Rattle.tick.specs.Offer.{Offer}
 use Rattle.tick.specs.declared.Answer.{Answer}
 use Rattle.tick.specs.declared.Answer.TheVariants.{Refused, Waited, Entered, Ran, Sleep, Watchdog, Undefined, Break, End}
 use Rattle.tick.specs.Tick.{Tick, number_of, refuses, stops, tick_of}

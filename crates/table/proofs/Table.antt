@@ -23,8 +23,8 @@ use Rattle.execute.specs.declared.Done.{Done}
 use Rattle.execute.specs.declared.Done.TheVariants as done
 use Rattle.execute.specs.Needs.{refusal, push_needs}
 use Rattle.execute.specs.Execute.{executed}
-use Rattle.tick.specs.declared.Offer.{Offer}
-use Rattle.tick.specs.declared.Offer.TheVariants.{Vector, Nothing}
+use Rattle.tick.specs.Offer.{Offer}
+use Rattle.std.specs.Prelude.{Some, None}
 use Rattle.tick.specs.Tick.{number_of, due, stepped, enters_or_steps, ticked, tick_of}
 use Rattle.tick.proofs.Steps.{onward, step_needs, performed}
 use Rattle.table.specs.Steps.{offered, enters, has_all, pushed}
@@ -81,16 +81,16 @@ form i = (code i).0
 
 -- ---- step 3: a vector is due, or none
 abbrev vector : Bool → Bool → Bool → Offer → Offer
-vector i f s o = pick i Nothing (pick f (pick s Nothing o) Nothing)
+vector i f s o = pick i None (pick f (pick s None o) None)
 
 module _ {X : Type 0} where
-  by_due : (i f s : Bool) (o : Offer) → ((v : ℕ) → vector i f s o ≡ Vector v → (not i && f && not s && offered o) ≡ true → X)
-      → (vector i f s o ≡ Nothing → (not i && f && not s && offered o) ≡ false → X) → X
+  by_due : (i f s : Bool) (o : Offer) → ((v : ℕ) → vector i f s o ≡ Some v → (not i && f && not s && offered o) ≡ true → X)
+      → (vector i f s o ≡ None → (not i && f && not s && offered o) ≡ false → X) → X
   by_due true f s o enter stay = stay refl refl
   by_due false false s o enter stay = stay refl refl
   by_due false true true o enter stay = stay refl refl
-  by_due false true false (Vector v) enter stay = enter v refl refl
-  by_due false true false Nothing enter stay = stay refl refl
+  by_due false true false (Some v) enter stay = enter v refl refl
+  by_due false true false None enter stay = stay refl refl
 
 -- ---- the steps
 module _ (k : Core) (p m : List ℕ) (o : Offer) where
@@ -113,7 +113,7 @@ module _ (k : Core) (p m : List ℕ) (o : Offer) where
     calm = eq-eqb k.busy 0 z
 
     -- an entry, which may lack two things
-    entering : (v : ℕ) → due k o ≡ Vector v → enters k o ≡ true → Fits (number_of (tick_of k p m o).answer) (rows k p m o)
+    entering : (v : ℕ) → due k o ≡ Some v → enters k o ≡ true → Fits (number_of (tick_of k p m o).answer) (rows k p m o)
     unfolding ticked enters_or_steps
     entering v d e =
         test (ltb k.sp 2) (λ s. rw (e, s, over, none, calm, d, rw s at entry_refusal) tt)
@@ -124,12 +124,12 @@ module _ (k : Core) (p m : List ℕ) (o : Offer) where
         entry_refusal = cc (push_stack k.sp, pushed_in m k.sp)
 
     -- the end
-    ending : due k o ≡ Nothing → enters k o ≡ false → k.pc ≡ 65535 → Fits (number_of (tick_of k p m o).answer) (rows k p m o)
+    ending : due k o ≡ None → enters k o ≡ false → k.pc ≡ 65535 → Fits (number_of (tick_of k p m o).answer) (rows k p m o)
     unfolding ticked enters_or_steps
     ending d e h = rw (e, over, none, calm, d, eq-eqb k.pc 65535 h) tt
 
     -- an instruction, which may lack four things and is then done in one of five ways
-    module _ (d : due k o ≡ Nothing) (e : enters k o ≡ false) (h : k.pc < 65535) where
+    module _ (d : due k o ≡ None) (e : enters k o ≡ false) (h : k.pc < 65535) where
       abbrev op : Instruction
       op = op_at decode_of p k.pc
 

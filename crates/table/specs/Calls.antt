@@ -4,7 +4,7 @@ use Rattle.std.specs.Prelude.{◌≡◌, ◌↔◌, Bool, true, false, not, ◌&
 use Rattle.basis.specs.Bytes.{Bytes}
 use Rattle.cores.specs.declared.Core.{Core}
 use Rattle.cores.specs.State.{read_register_of, set_register_of}
-use Rattle.tick.specs.declared.Offer.{Offer}
+use Rattle.tick.specs.Offer.{Offer}
 use Rattle.tick.specs.Tick.{number_of, tick_of}
 use Rattle.run.specs.Run.{run_of, goes_on}
 use Rattle.snapshot.specs.Snapshot.{bytes_of, core_of, write_of, read_of}

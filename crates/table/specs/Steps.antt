@@ -10,8 +10,8 @@ use Rattle.memory.specs.Memory.{has_of}
 use Rattle.cores.specs.declared.Core.{Core}
 use Rattle.cores.specs.State.{reg, word, flag}
 use Rattle.cores.specs.Flow.{data_bit_is}
-use Rattle.tick.specs.declared.Offer.{Offer}
-use Rattle.tick.specs.declared.Offer.TheVariants.{Vector, Nothing}
+use Rattle.tick.specs.Offer.{Offer}
+use Rattle.std.specs.Prelude.{Some, None}
 
 -- ---- the step
 -- 1: "Busy above 4"
@@ -27,8 +27,8 @@ abbrev pub idle : Core → Bool
 idle k = eqb k.busy 0
 
 abbrev pub offered : Offer → Bool
-offered (Vector v) = true
-offered Nothing = false
+offered (Some v) = true
+offered None = false
 
 -- 3: "Inhibit set: .. no interrupt this tick. Otherwise, if I is set, in-service is clear and a vector is offered: entry."
 abbrev pub enters : Core → Offer → Bool

@@ -9,7 +9,7 @@ use Rattle.memory.specs.Memory.{has_of, has_word_of}
 use Rattle.cores.specs.declared.Core.{Core}
 use Rattle.cores.specs.State.{word}
 use Rattle.cores.specs.Flow.{op_at}
-use Rattle.tick.specs.declared.Offer.{Offer}
+use Rattle.tick.specs.Offer.{Offer}
 use Rattle.tick.specs.Tick.{number_of, tick_of}
 use Rattle.table.specs.Steps.{too_busy, waits, enters, ends, steps, reads_program, skips, pushed, data_needed, has_all}
 

@@ -4,7 +4,7 @@ use Rattle.std.specs.Prelude.{List, ◌≡◌, ℕ}
 use Rattle.instruction.specs.Decode.{decode_of}
 use Rattle.cores.specs.declared.Core.{Core}
 use Rattle.tick.specs.Tick.{ticked, tick_of}
-use Rattle.tick.specs.declared.Offer.{Offer}
+use Rattle.tick.specs.Offer.{Offer}
 use Rattle.run.specs.Run.{ran, run_of}
 use Rattle.form_table.specs.Rule.{table_of}
 use Rattle.table_decode.specs.Decoding.{decoded_by}

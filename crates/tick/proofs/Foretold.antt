@@ -14,8 +14,8 @@ use Rattle.cores.specs.State.{out, Leaves, with_pc, with_busy, with_inhibit}
 use Rattle.execute.specs.Needs.{Needs, refusal, push_needs, needs, fetched, with_fetch}
 use Rattle.execute.specs.Execute.{behind, executed}
 use Rattle.execute.proofs.Answers.{executed-done}
-use Rattle.tick.specs.declared.Offer.{Offer}
-use Rattle.tick.specs.declared.Offer.TheVariants.{Vector, Nothing}
+use Rattle.tick.specs.Offer.{Offer}
+use Rattle.std.specs.Prelude.{Some, None}
 use Rattle.tick.specs.declared.Answer.{Answer}
 use Rattle.tick.specs.declared.Answer.TheVariants as answer
 use Rattle.tick.specs.declared.Plan.{Plan}
@@ -52,8 +52,8 @@ module _ (k : Core) (p m : List ℕ) where
 
   enters_or_steps_lem : (o : Offer) → in_turn (entry_or_step k p m o) ≡ enters_or_steps decode_of k p m o
   unfolding entry_or_step enters_or_steps
-  enters_or_steps_lem (Vector v) = granted_decided (push_needs k m) (Enter v) (in_turn (Enter v)) refl
-  enters_or_steps_lem Nothing =
+  enters_or_steps_lem (Some v) = granted_decided (push_needs k m) (Enter v) (in_turn (Enter v)) refl
+  enters_or_steps_lem None =
       let next = with_inhibit k false in
       by_test in_turn (eqb k.pc 65535) End (step_plan k p m) (gives answer.End next m) (stepped decode_of k next p m) (λ _. refl) steps
 

@@ -18,8 +18,8 @@ use Rattle.execute.specs.declared.Done.TheVariants as done
 use Rattle.execute.specs.Needs.{Needs, refusal, push_needs, needs, fetched, with_fetch}
 use Rattle.execute.specs.Execute.{Executed, executed}
 use Rattle.tick.specs.Tick.{Tick, refuses, answer_of, gives, decided, due, entry, executed_tick, stepped, enters_or_steps, ticked, tick_of}
-use Rattle.tick.specs.declared.Offer.{Offer}
-use Rattle.tick.specs.declared.Offer.TheVariants.{Vector, Nothing}
+use Rattle.tick.specs.Offer.{Offer}
+use Rattle.std.specs.Prelude.{Some, None}
 use Rattle.tick.specs.declared.Answer.TheVariants.{Refused, Waited, Entered, End}
 
 -- ---- a step that is refused, by one of 1 to 4, or done
@@ -44,7 +44,7 @@ done_refuses_not done.Undefined = refl
 done_refuses_not done.Break = refl
 
 -- ---- what is due: the offer, or nothing where inhibit or in-service is set
-pub every_due : (P : Offer → Type 0) (k : Core) (o : Offer) → P Nothing → (k.inhibit ≡ false → k.in_service ≡ false → P o) → P (due k o)
+pub every_due : (P : Offer → Type 0) (k : Core) (o : Offer) → P None → (k.inhibit ≡ false → k.in_service ≡ false → P o) → P (due k o)
 every_due P k o none some =
     cases P k.inhibit _ _ (λ i. none)
     λ i. cases P (flag k 7) _ _ (λ f. cases P k.in_service _ _ (λ s. none) (some i)) (λ f. none)
@@ -76,9 +76,9 @@ module _ (decode : ℕ → ℕ → Instruction) where
     pub every_tick :
         ((n : ℕ) → 1 ≤ n → n ≤ 5 → P (gives (Refused n) k m))
         → (0 < k.busy → k.busy ≤ 4 → P (gives Waited (with_busy k (k.busy - 1)) m))
-        → (k.busy ≡ 0 → (v : ℕ) → due k o ≡ Vector v → refusal (push_needs k m) ≡ 0 → P (gives Entered (entry k v m).core (entry k v m).bytes))
-        → (k.busy ≡ 0 → due k o ≡ Nothing → k.pc ≡ 65535 → P (gives End (with_inhibit k false) m))
-        → (k.busy ≡ 0 → due k o ≡ Nothing → (k.pc ≡ 65535 → ⊥) → refusal (step_needs k p m) ≡ 0 → P (executed_tick (performed k p m)))
+        → (k.busy ≡ 0 → (v : ℕ) → due k o ≡ Some v → refusal (push_needs k m) ≡ 0 → P (gives Entered (entry k v m).core (entry k v m).bytes))
+        → (k.busy ≡ 0 → due k o ≡ None → k.pc ≡ 65535 → P (gives End (with_inhibit k false) m))
+        → (k.busy ≡ 0 → due k o ≡ None → (k.pc ≡ 65535 → ⊥) → refusal (step_needs k p m) ≡ 0 → P (executed_tick (performed k p m)))
         → P (ticked decode k p m o)
     unfolding ticked enters_or_steps stepped with_inhibit
     every_tick refuse wait enter end step =
@@ -90,8 +90,8 @@ module _ (decode : ℕ → ℕ → Instruction) where
         low r g h = refuse r g (omega arith)
 
         offered : k.busy ≡ 0 → (d : Offer) → due k o ≡ d → P (enters_or_steps decode k p m d)
-        offered b (Vector v) e = every_decided P (push_needs k m) k m (gives Entered (entry k v m).core (entry k v m).bytes) low (enter b v e)
-        offered b Nothing e =
+        offered b (Some v) e = every_decided P (push_needs k m) k m (gives Entered (entry k v m).core (entry k v m).bytes) low (enter b v e)
+        offered b None e =
             cases P (eqb k.pc 65535) (gives End (with_inhibit k false) m) _ (λ z. end b e (eqb-true k.pc 65535 z))
             λ z. every_decided P (step_needs k p m) k m (executed_tick (performed k p m)) low (step b e (eqb-false k.pc 65535 z))
 

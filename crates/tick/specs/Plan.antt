@@ -8,8 +8,8 @@ use Rattle.cores.specs.State.{Out, out, with_busy, with_inhibit}
 use Rattle.cores.specs.Flow.{op_at}
 use Rattle.execute.specs.Needs.{refusal, push_needs, needs, fetched, with_fetch}
 use Rattle.execute.specs.Execute.{behind, executed, effect_of, done_of}
-use Rattle.tick.specs.declared.Offer.{Offer}
-use Rattle.tick.specs.declared.Offer.TheVariants.{Vector, Nothing}
+use Rattle.tick.specs.Offer.{Offer}
+use Rattle.std.specs.Prelude.{Some, None}
 use Rattle.tick.specs.declared.Answer.{Answer}
 use Rattle.tick.specs.declared.Answer.TheVariants as answer
 use Rattle.tick.specs.declared.Plan.{Plan}
@@ -29,8 +29,8 @@ step_plan k p m =
 
 -- steps 3 to 5, by the vector that is due. "4. PC 65,535: answer end."
 unfoldable pub entry_or_step : Core → List ℕ → List ℕ → Offer → Plan
-entry_or_step k p m (Vector v) = granted (refusal (push_needs k m)) (Enter v)
-entry_or_step k p m Nothing = pick (eqb k.pc 65535) End (step_plan k p m)
+entry_or_step k p m (Some v) = granted (refusal (push_needs k m)) (Enter v)
+entry_or_step k p m None = pick (eqb k.pc 65535) End (step_plan k p m)
 
 -- "1. Busy above 4: refusal 5. 2. Busy above 0: it falls by one; answer waited. The offer isn't looked at."
 unfoldable pub plan_of : Core → List ℕ → List ℕ → Offer → Plan

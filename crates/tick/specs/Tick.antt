@@ -10,8 +10,8 @@ use Rattle.execute.specs.Needs.{Needs, refusal, push_needs, needs, fetched, with
 use Rattle.execute.specs.Execute.{Executed, executed}
 use Rattle.execute.specs.declared.Done.{Done}
 use Rattle.execute.specs.declared.Done.TheVariants as done
-use Rattle.tick.specs.declared.Offer.{Offer}
-use Rattle.tick.specs.declared.Offer.TheVariants.{Vector, Nothing}
+use Rattle.tick.specs.Offer.{Offer}
+use Rattle.std.specs.Prelude.{Some, None}
 use Rattle.tick.specs.declared.Answer.{Answer}
 use Rattle.tick.specs.declared.Answer.TheVariants.{Refused, Waited, Entered, Ran, Sleep, Watchdog, Undefined, Break, End}
 use Rattle.tick.specs.declared.Ticked.{Ticked}
@@ -85,7 +85,7 @@ decided needed k m t = pick (eqb (refusal needed) 0) t (gives (Refused (refusal 
 
 -- step 3: "Inhibit set: .. no interrupt this tick. Otherwise, if I is set, in-service is clear and a vector is offered: entry."
 abbrev pub due : Core → Offer → Offer
-due k o = pick k.inhibit Nothing (pick (flag k 7) (pick k.in_service Nothing o) Nothing)
+due k o = pick k.inhibit None (pick (flag k 7) (pick k.in_service None o) None)
 
 -- "Low byte of PC goes to data at SP, high byte at SP-1; SP falls by 2; PC is the vector; busy 4; in-service set; I kept"
 abbrev pub entry : Core → ℕ → List ℕ → Out
@@ -108,8 +108,8 @@ module _ (decode : ℕ → ℕ → Instruction) where
 
   -- steps 3 to 5, by the vector that is due. "4. PC 65,535: answer end. Only inhibit may have changed."
   unfoldable pub enters_or_steps : Core → List ℕ → List ℕ → Offer → Tick
-  enters_or_steps k p m (Vector v) = entered k v m
-  enters_or_steps k p m Nothing = let next = with_inhibit k false in pick (eqb k.pc 65535) (gives End next m) (stepped k next p m)
+  enters_or_steps k p m (Some v) = entered k v m
+  enters_or_steps k p m None = let next = with_inhibit k false in pick (eqb k.pc 65535) (gives End next m) (stepped k next p m)
 
   -- "1. Busy above 4: refusal 5. 2. Busy above 0: it falls by one; answer waited. The offer isn't looked at."
   unfoldable pub ticked : Core → List ℕ → List ℕ → Offer → Tick

@@ -3,21 +3,21 @@ ghost use Rattle.std.specs.Prelude.{◌≡◌};
 ghost use Rattle.tick.specs.Tick.{due};
 ghost use Rattle.tick.specs.Plan.{granted, step_plan, plan_of};
 
-use crate::{Offer, Plan, words};
+use crate::{Plan, words};
 use cores::Core;
 
 // The offer, where an interrupt is to be entered now.
-fn due(core: Core, offer: Offer) -> Offer
+fn due(core: Core, offer: Option<u16>) -> Option<u16>
     ensures { result ≡ due core offer }
 {
     if core.inhibit {
         // After reti, core will always execute one instruction before another interrupt
-        return Offer::Nothing;
+        return None;
     }
     if core.get_sreg_bit(Core::I) & !core.in_service {
         offer
     } else {
-        Offer::Nothing
+        None
     }
 }
 
@@ -39,7 +39,7 @@ fn step(core: Core, program: &[u8], data: &[u8]) -> Plan
     granted(execute::refusal(core, op, program, data), Plan::Execute(op))
 }
 
-pub fn decide(core: Core, program: &[u8], data: &[u8], offer: Offer) -> Plan
+pub fn decide(core: Core, program: &[u8], data: &[u8], offer: Option<u16>) -> Plan
     ensures { result ≡ plan_of core program.now «data».now offer }
 {
     if core.busy > 4 {
@@ -51,8 +51,8 @@ pub fn decide(core: Core, program: &[u8], data: &[u8], offer: Offer) -> Plan
     }
     let vector = due(core, offer);
     match vector {
-        Offer::Vector(address) => granted(execute::push_refusal(core, data), Plan::Enter(address)),
-        Offer::Nothing => {
+        Some(address) => granted(execute::push_refusal(core, data), Plan::Enter(address)),
+        None => {
             // Terminate if PC overflows to prevent program from restarting
             if core.pc == 65535 {
                 Plan::End

@@ -15,13 +15,6 @@ mod words;
 pub use carrying::carry_out;
 pub use deciding::decide;
 
-// A vector, or none.
-#[derive(Clone, Copy)]
-pub enum Offer {
-    Vector(u16),
-    Nothing,
-}
-
 #[derive(Clone, Copy)]
 pub enum Answer {
     Refused(u8),
@@ -103,13 +96,13 @@ pub fn stops(answer: Answer) -> bool
 }
 
 // The answer that `tick` would give now. Nothing is written.
-pub fn foretell(core: Core, program: &[u8], data: &[u8], offer: Offer) -> Answer
+pub fn foretell(core: Core, program: &[u8], data: &[u8], offer: Option<u16>) -> Answer
     ensures { result ≡ (tick_of core program.now «data».now offer).answer }
 {
     decide(core, program, data, offer).answer()
 }
 
-pub fn tick(core: Core, program: &[u8], data: &mut [u8], offer: Offer) -> Ticked
+pub fn tick(core: Core, program: &[u8], data: &mut [u8], offer: Option<u16>) -> Ticked
     ensures { Ticks (tick_of core program.now «data».old offer) result «data».new }
 {
     let plan = decide(core, program, data, offer);
@@ -134,7 +127,7 @@ fn answer_in(ticked: Ticked) -> Answer
 }
 
 // The bench loop's form: its one core is lent, and changed at each tick.
-pub fn tick_in_place(core: &mut Core, program: &[u8], data: &mut [u8], offer: Offer) -> Answer
+pub fn tick_in_place(core: &mut Core, program: &[u8], data: &mut [u8], offer: Option<u16>) -> Answer
     ensures { Ticks (tick_of core.old program.now «data».old offer) (in_place result core.new) «data».new }
 {
     let ticked = tick(*core, program, data, offer);

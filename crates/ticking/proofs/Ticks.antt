@@ -1,7 +1,7 @@
 -- Of so many ticks: none is left, or one is made and one less is left.
 use Rattle.std.proofs.Common.{◌≡◌, ℕ, zero, suc, ◌-◌, ◌<◌, ◌≤◌, List, ◌∙◌, subst, arith}
 use Rattle.cores.specs.declared.Core.{Core}
-use Rattle.tick.specs.declared.Offer.{Offer}
+use Rattle.tick.specs.Offer.{Offer}
 use Rattle.tick.specs.Tick.{tick_of}
 use Rattle.ticking.specs.After.{Left, after_of}
 

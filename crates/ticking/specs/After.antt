@@ -3,7 +3,7 @@
 use Rattle.std.specs.Prelude.{List, ℕ, zero, suc}
 use Rattle.cores.specs.declared.Core.{Core}
 use Rattle.tick.specs.Tick.{tick_of}
-use Rattle.tick.specs.declared.Offer.{Offer}
+use Rattle.tick.specs.Offer.{Offer}
 
 -- what the last of them leaves
 pub record Left : Type 0 where

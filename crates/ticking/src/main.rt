@@ -7,9 +7,8 @@ ghost use Rattle.ticking.specs.After.{after_of};
 
 use cores::Core;
 use std::io::{self, Read};
-use tick::Offer;
 
-fn after(first: Core, program: &[u8], data: &mut [u8], offer: Offer, ticks: u32) -> Core
+fn after(first: Core, program: &[u8], data: &mut [u8], offer: Option<u16>, ticks: u32) -> Core
     ensures { record { core = result; bytes = «data».new } ≡ after_of ticks first program.now «data».old offer }
 {
     let mut core = first;
@@ -31,7 +30,7 @@ fn main(rt: HostRuntime) -> io::Result<()> {
         Core::fresh(0),
         input.get(4..).unwrap_or(&[]),
         &mut data,
-        Offer::Nothing,
+        None,
         high * 65536 + low,
     );
     println!(rt; "{} {}", last.pc, last.get_register(16))

@@ -10,7 +10,7 @@ use lib.ListN.{replicate}
 use Rattle.cores.specs.declared.Core.{Core}
 use Rattle.cores.specs.State.{fresh_of}
 use Rattle.tick.specs.Tick.{refuses, stops, tick_of, Ticks}
-use Rattle.tick.specs.declared.Offer.TheVariants.{Nothing}
+use Rattle.std.specs.Prelude.{None}
 use Rattle.tick.specs.declared.Ticked.{Ticked}
 use Rattle.page.specs.Page.{Page, with_text, Puts}
 use Rattle.tracing.specs.Trace.{line_of, lines_of, zeros, ticks_of}
@@ -29,7 +29,7 @@ module _ (b n : ℕ) (k : Core) (p m : List ℕ) (g : Page) where
   less_one : n < b → b - n ≡ suc (b - (n + 1))
   less_one h = omega arith
 
-  module _ (z : Ticked) (d : List ℕ) (h : Page) (less : n < b) (t : Ticks (tick_of k p m Nothing) z d)
+  module _ (z : Ticked) (d : List ℕ) (h : Page) (less : n < b) (t : Ticks (tick_of k p m None) z d)
       (line : Puts g (line_of (n + 1) k.pc z.answer z.core) h) where
     pub ends : (refuses z.answer || stops z.answer) ≡ true → with_text g (lines_of (b - n) (n + 1) k p m) ≡ h
     unfolding lines_of

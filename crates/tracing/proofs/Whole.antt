@@ -11,7 +11,7 @@ use Rattle.basis.specs.Bytes.{Bytes}
 use Rattle.cores.specs.declared.Core.{Core}
 use Rattle.cores.specs.State.{fresh_of}
 use Rattle.tick.specs.Tick.{refuses, stops, tick_of}
-use Rattle.tick.specs.declared.Offer.TheVariants.{Nothing}
+use Rattle.std.specs.Prelude.{None}
 use Rattle.tracing.specs.declared.job.Job.TheVariants.{Bad, Trace}
 use Rattle.page.proofs.Laid.{in_front}
 use Rattle.tracing.specs.Trace.{word_in, line_of, lines_of, zeros, text_of, trace_of, WholeTrace}
@@ -26,7 +26,7 @@ lines_short : (b number : ℕ) (k : Core) (p m : List ℕ) → length (lines_of 
 unfolding lines_of
 lines_short zero number k p m = omega arith
 lines_short (suc b) number k p m =
-    let t = tick_of k p m Nothing in
+    let t = tick_of k p m None in
     more (refuses t.answer || stops t.answer) (line_of number k.pc t.answer t.core) (lines_of b (number + 1) t.core p t.bytes) b
     (line_short number k.pc t.answer t.core) (lines_short b (number + 1) t.core p t.bytes)
 

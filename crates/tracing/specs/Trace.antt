@@ -8,7 +8,7 @@ use Rattle.page.specs.Numbers.{hex2, hex4, decimal}
 use Rattle.cores.specs.declared.Core.{Core}
 use Rattle.cores.specs.State.{fresh_of}
 use Rattle.tick.specs.Tick.{refuses, stops, tick_of}
-use Rattle.tick.specs.declared.Offer.TheVariants.{Nothing}
+use Rattle.std.specs.Prelude.{None}
 use Rattle.tick.specs.declared.Answer.{Answer}
 use Rattle.tick.specs.declared.Answer.TheVariants.{Refused, Waited, Entered, Ran, Sleep, Watchdog, Undefined, Break, End}
 use Rattle.tracing.specs.declared.job.Job.{Job}
@@ -54,7 +54,7 @@ line_of number before answer k =
 unfoldable pub lines_of : ℕ → ℕ → Core → List ℕ → List ℕ → List ℕ
 lines_of zero number k p m = []
 lines_of (suc left) number k p m =
-    let t = tick_of k p m Nothing in
+    let t = tick_of k p m None in
     line_of number k.pc t.answer t.core
     ++ pick (refuses t.answer || stops t.answer) [] (lines_of left (number + 1) t.core p t.bytes)
 

@@ -4,7 +4,6 @@ ghost use Rattle.tracing.specs.Trace.{ticks_of};
 
 use crate::line::put_line;
 use cores::Core;
-use tick::Offer;
 
 // From the buffer's start on; where the last line ends.
 pub fn put_lines(out: &mut [u8], program: &[u8], sp: u16, budget: u16) -> usize
@@ -16,7 +15,7 @@ pub fn put_lines(out: &mut [u8], program: &[u8], sp: u16, budget: u16) -> usize
     let mut at: usize = 0;
     while number < budget {
         let before = core.pc;
-        let ticked = tick::tick(core, program, &mut data, Offer::Nothing);
+        let ticked = tick::tick(core, program, &mut data, None);
         let answer = ticked.answer;
         core = ticked.core;
         number += 1;

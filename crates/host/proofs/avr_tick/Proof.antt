@@ -9,7 +9,7 @@ use borrow.Author.Tests.{lt-ltb, le-ltb}
 use Rattle.basis.specs.Pick.{pick}
 use Rattle.basis.proofs.Choice.{test}
 use Rattle.tick.specs.Tick.{number_of, tick_of}
-use Rattle.tick.specs.declared.Offer.{Offer}
+use Rattle.tick.specs.Offer.{Offer}
 use Rattle.snapshot.specs.Snapshot.{read_of, write_of}
 use Rattle.run.specs.Over.{tick_in, TicksIn}
 use Rattle.host.specs.Host.{Told, told, Tells, avr_tick_of}

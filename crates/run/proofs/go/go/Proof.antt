@@ -5,7 +5,7 @@ use Rattle.forms.specs.Instructions.{instruction_of}
 use Rattle.memory.specs.Memory.{program_word_of}
 use Rattle.cores.specs.declared.Core.{Core}
 use Rattle.tick.specs.Tick.{Tick, tick_of}
-use Rattle.tick.specs.declared.Offer.{Offer}
+use Rattle.tick.specs.Offer.{Offer}
 use Rattle.tick.specs.declared.Answer.TheVariants.{Ran}
 use Rattle.effects.specs.Parts.{stood, cored}
 use Rattle.run.specs.Lent.{offers, rest_of}

@@ -9,7 +9,7 @@ use lib.Dec.{eqb}
 use borrow.Author.Rules.{rules}
 use Rattle.basis.specs.Bytes.{Bytes}
 use Rattle.snapshot.specs.Snapshot.{read_of}
-use Rattle.tick.specs.declared.Offer.TheVariants.{Nothing}
+use Rattle.std.specs.Prelude.{None}
 use Rattle.run.specs.Over.{run_in, RunsIn}
 use Rattle.run.specs.declared.over.Over.{Over}
 use Rattle.schedule.specs.Schedule.{Record, rising, offered}
@@ -62,11 +62,11 @@ module _ (c : tie.After-run_in-ran) where
   data_bytes : Bytes m
   data_bytes = record { byte_lt = λ i. omega (arith, c.slice_known-2-1.given i) }
 
-  ensured : RunsIn (run_in s p m Nothing u) a s' m'
+  ensured : RunsIn (run_in s p m None u) a s' m'
   ensured =
       let many : c.until.result ≡ u = c.until.ensures in
-      let ran : RunsIn (run_in s p m Nothing c.until.result) a s' m' = c.run_in-ran.ensures in
-      subst (λ (n : ℕ). RunsIn (run_in s p m Nothing n) a s' m') many ran
+      let ran : RunsIn (run_in s p m None c.until.result) a s' m' = c.run_in-ran.ensures in
+      subst (λ (n : ℕ). RunsIn (run_in s p m None n) a s' m') many ran
 
   abbrev quiet : Quiet
   quiet =
@@ -95,7 +95,7 @@ module _ (c : tie.After-run_in-ran) where
   in_budget = omega (arith, few quiet, fits)
 
   module _ (ds : List Record) (f : rising d.tick ds ≡ true) where
-    none : (x : ℕ) → done < x → x ≤ done + u → offered x (d ∷ ds) ≡ Nothing
+    none : (x : ℕ) → done < x → x ≤ done + u → offered x (d ∷ ds) ≡ None
     none = none_before d.tick done b d ds refl f start.requires.1
 
     onward : a.answer ≡ 24 → rest_from b done s p m (d ∷ ds) ≡ rest_from b (done + a.ticks) s' p m' (d ∷ ds)

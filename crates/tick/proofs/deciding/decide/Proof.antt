@@ -22,8 +22,8 @@ decide_spec =
     (λ c. search rules)
     (λ c κs. search rules)
     (λ c. let d = c in
-    simp (le-ltb _ _ d.if-core-gt4.false, le-ltb _ _ d.if-core-gt0.false, ← d.due-vector.ensures, c.in-Vector.is, ← c.push_refusal.ensures) c.granted.ensures)
+    simp (le-ltb _ _ d.if-core-gt4.false, le-ltb _ _ d.if-core-gt0.false, ← d.due-vector.ensures, c.in-Some.is, ← c.push_refusal.ensures) c.granted.ensures)
     (λ c. let d = c in
-    simp (le-ltb _ _ d.if-core-gt4.false, le-ltb _ _ d.if-core-gt0.false, ← d.due-vector.ensures, c.in-Nothing.is, eq-eqb _ _ c.if-core-eq65535.true))
+    simp (le-ltb _ _ d.if-core-gt4.false, le-ltb _ _ d.if-core-gt0.false, ← d.due-vector.ensures, c.in-None.is, eq-eqb _ _ c.if-core-eq65535.true))
     (λ c. let d = c in
-    simp (le-ltb _ _ d.if-core-gt4.false, le-ltb _ _ d.if-core-gt0.false, ← d.due-vector.ensures, c.in-Nothing.is, ne_eqb _ _ c.if-core-eq65535.false) c.step.ensures))
+    simp (le-ltb _ _ d.if-core-gt4.false, le-ltb _ _ d.if-core-gt0.false, ← d.due-vector.ensures, c.in-None.is, ne_eqb _ _ c.if-core-eq65535.false) c.step.ensures))

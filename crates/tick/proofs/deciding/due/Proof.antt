@@ -4,7 +4,7 @@ use mathlib.Core.Path.{◌≡◌}
 use mathlib.Core.Bool.{true, false, not, ◌&&◌}
 use borrow.Author.Rules.{rules}
 use Rattle.cores.specs.State.{flag}
-use Rattle.tick.specs.declared.Offer.TheVariants.{Nothing}
+use Rattle.std.specs.Prelude.{None}
 use Rattle.tick.proofs.Decided.{if_and_not}
 use Rattle.tick.proofs.deciding.due.Statement.{statement}
 use Rattle.tick.proofs.deciding.due.Tie as tie
@@ -20,8 +20,8 @@ due_spec =
     (λ c. let a = c.args in
     let k = a.core in
     let free : (flag k 7 && not k.in_service) ≡ true = rw c.get_sreg_bit.ensures at c.if-get_sreg_bit-core.true in
-    rw (c.if-core.false, ← if_and_not (flag k 7) k.in_service Nothing a.offer, free))
+    rw (c.if-core.false, ← if_and_not (flag k 7) k.in_service None a.offer, free))
     (λ c. let a = c.args in
     let k = a.core in
     let not_free : (flag k 7 && not k.in_service) ≡ false = rw c.get_sreg_bit.ensures at c.if-get_sreg_bit-core.false in
-    rw (c.if-core.false, ← if_and_not (flag k 7) k.in_service Nothing a.offer, not_free)))
+    rw (c.if-core.false, ← if_and_not (flag k 7) k.in_service None a.offer, not_free)))
