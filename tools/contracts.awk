@@ -1,9 +1,10 @@
-# Prints a row of docs/CONTRACTS.md for each public function of a file of Rattle, and its faults to standard error. What it does not understand is a fault.
+# Prints a row of docs/CONTRACTS.md for each public function of a file of Rattle and for each of its conversions, an `impl From`, and its faults to standard error. What it does not understand is a fault.
 # The file is in the layout of `rt fmt`.
 BEGIN {
     # a clause's form, and the law of crates/promises/specs/OneOutcome.antt by which it pins what it speaks of:
     # D is a definition over what was there before the call, r the result, x a parameter or what it points to before the call, and x′ what it points to after it
     rules["r ≡ D"] = rules["x′ ≡ D"] = "equation"
+    rules["said_read r ≡ D"] = "reads"
     rules["Leaves D r x′"] = "leaves"
     rules["Leaves D (cored x′ r x) x′"] = "leaves_lent"
     rules["Changes D x x x x x r x′"] = "changes"
@@ -13,7 +14,7 @@ BEGIN {
     rules["Runs D r x′"] = "runs"
     rules["TicksIn D r x′ x′"] = "ticks_in"
     rules["RunsIn D r x′ x′"] = "runs_in"
-    rules["Writes D r x′"] = "writes"
+    rules["Writes D (said_write r) x′"] = "writes"
     rules["Prints D x r x′"] = "prints"
     rules["Puts D D (page x′ r)"] = "puts"
     rules["Tells D r x′ x′"] = "tells"
@@ -27,7 +28,7 @@ BEGIN {
     homes["Ticks"] = homes["in_place"] = "Rattle.tick.specs.Tick"
     homes["Runs"] = "Rattle.run.specs.Run"
     homes["TicksIn"] = homes["RunsIn"] = "Rattle.run.specs.Over"
-    homes["Writes"] = "Rattle.snapshot.specs.Snapshot"
+    homes["Writes"] = homes["said_read"] = homes["said_write"] = "Rattle.snapshot.specs.Snapshot"
     homes["Prints"] = homes["Puts"] = homes["page"] = "Rattle.page.specs.Page"
     homes["Tells"] = homes["TellsTicks"] = "Rattle.host.specs.Host"
 }
@@ -50,6 +51,7 @@ function arguments(text, parts,    count, depth, at, c) {
 function form(text,    parts, count, at, found) {
     count = arguments(text, parts)
     if (parts[2] == "≡") return letter(parts[1]) " ≡ " definition(substr(text, index(text, " ≡ ") + length(" ≡ ")))
+    if (parts[3] == "≡") return parts[1] " " letter(parts[2]) " ≡ " definition(substr(text, index(text, " ≡ ") + length(" ≡ ")))
     found = parts[1] " " definition(parts[2])
     at = 3
     if (parts[1] == "Puts") found = found " " definition(parts[at++])
@@ -61,7 +63,7 @@ function letter(part,    parts, count, at, found) {
     if (part == "result") return "r"
     if (part ~ /^[A-Za-z_][A-Za-z0-9_]*(\.old|\.now)?$/) return "x"
     if (part ~ /^[A-Za-z_][A-Za-z0-9_]*\.new$/) return "x′"
-    if (part !~ /^\((in_place|page|cored) [^()]*\)$/) return "?"
+    if (part !~ /^\((in_place|page|cored|said_[a-z_]+) [^()]*\)$/) return "?"
     count = arguments(substr(part, 2, length(part) - 2), parts)
     found = parts[1]
     for (at = 2; at <= count; at++) found = found " " letter(parts[at])
@@ -93,6 +95,18 @@ function clause(    text, shape) {
     else if (shape in rules) pin(text, shape)
     else if (sub(/ after/, " D", shape) && shape in rules) fault("its definition mentions the result or a buffer after the call")
     else fault("no law makes one outcome of `" text "`")
+}
+
+# the clause of an `impl From`: what the value is made from, and the value, have the names that stand behind its λ
+function gives(text,    names, value) {
+    names = text
+    sub(/^ ghost from_gives = \{ λ /, "", names); sub(/\. .*/, "", names)
+    sub(/^[^.]*\. /, "", text); sub(/ \};$/, "", text)
+    split(names, value, " ")
+    contract = text
+    converting = 2
+    if (index(text, value[2] " ≡ ") != 1 || form("result" substr(text, length(value[2]) + 1)) != "r ≡ D") fault("no law makes one outcome of `" text "`")
+    print "| `" crate "` | `" name "` | `" text "` | equation |"
 }
 
 function pin(text, shape) {
@@ -214,6 +228,18 @@ exporting && /[;{]$/ && !/::\{$/ {
 }
 /^ ?(pub )?mod [a-z0-9_]+ \{/ { fault("a module in a file, which this tool does not read") }
 /^ ?pub struct [A-Za-z0-9_]+</ { fault("a struct that holds a reference, which this tool does not read") }
+/^impl From<[A-Za-z0-9_]+> for [A-Za-z0-9_]+ \{$/ {
+    if (inside) finish()
+    name = $0; sub(/^impl /, "", name); sub(/ \{$/, "", name)
+    converting = inside = 1
+    next
+}
+converting == 1 && /^ ghost from_gives = \{ λ [a-z_]+ [a-z_]+\. .* \};$/ { gives($0) }
+converting && /^}/ {
+    if (converting == 1) fault("says nothing of what it gives, as in `ghost from_gives = { .. };`")
+    converting = inside = 0
+}
+converting { next }
 /^ ?(pub )?trait |^ ?impl.* for / { fault("a trait, whose functions this tool does not read") }
 /^ ?ghost use / { brought = ""; bringing = 1 }
 bringing { brought = brought $0 }
