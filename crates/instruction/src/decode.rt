@@ -206,10 +206,8 @@ fn one_register(opcode: u16, prefetch: u16) -> Instruction
         8 => control(opcode),
         9 => indirect(opcode),
         10 => Instruction::DEC { d }, // 1001_010d_dddd_1010
-        12 => Instruction::JMP { k }, // 1001_010k_kkkk_110k
-        13 => Instruction::JMP { k },
-        14 => Instruction::CALL { k }, // 1001_010k_kkkk_111k
-        15 => Instruction::CALL { k },
+        12..=13 => Instruction::JMP { k }, // 1001_010k_kkkk_110k
+        14..=15 => Instruction::CALL { k }, // 1001_010k_kkkk_111k
         _ => Instruction::UNDEF,
     }
 }
