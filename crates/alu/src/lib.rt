@@ -83,7 +83,7 @@ pub fn minus_word(a: u16, n: u8) -> WordSum
 pub fn signed(a: u8) -> u16
     ensures { result ≡ signed_of a }
 {
-    a as u16 + (a / 128) as u16 * 65280
+    i16::from(a.cast_signed()).cast_unsigned()
 }
 
 // The 16 bits of a product of two numbers of 16 bits: a signed factor comes as `signed` gives it.

@@ -11,7 +11,10 @@ impl Instruction {
     {
         matches!(
             self,
-            Instruction::CALL { .. } | Instruction::JMP { .. } | Instruction::LDS { .. } | Instruction::STS { .. }
+            Instruction::CALL { .. }
+                | Instruction::JMP { .. }
+                | Instruction::LDS { .. }
+                | Instruction::STS { .. }
         )
     }
 }

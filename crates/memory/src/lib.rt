@@ -14,11 +14,7 @@ pub fn has(bytes: &[u8], address: usize) -> bool
 pub fn read(bytes: &[u8], address: usize) -> u8
     ensures { result ≡ get_or bytes.now address 0 }
 {
-    if address < bytes.len() {
-        bytes[address]
-    } else {
-        0
-    }
+    bytes.get(address).copied().unwrap_or(0)
 }
 
 pub fn write(bytes: &mut [u8], address: usize, value: u8)
