@@ -21,6 +21,7 @@ pub struct WordSum {
 }
 
 // a + b + c.
+#[tactic(auto, using(crate::proofs::Wraps::added), unfolding(crate::specs::Alu::plus_of))]
 pub fn plus(a: u8, b: u8, c: bool) -> Sum
     ensures { result ≡ plus_of a b c }
 {
@@ -37,6 +38,7 @@ pub fn plus(a: u8, b: u8, c: bool) -> Sum
 }
 
 // a - b - c.
+#[tactic(auto, using(crate::proofs::Wraps::taken), unfolding(crate::specs::Alu::minus_of))]
 pub fn minus(a: u8, b: u8, c: bool) -> Sum
     ensures { result ≡ minus_of a b c }
 {

@@ -127,33 +127,27 @@ impl Core {
     pub fn get_register(self, register: u8) -> u8
         ensures { result ≡ reg self register }
     {
-        let regs = self.regs;
-        memory::read(&regs, register as usize)
+        memory::read(&self.regs, register as usize)
     }
 
     // A byte into a register; above 31 nothing changes.
     pub fn put_register(mut self, register: u8, value: u8) -> Core
         ensures { result ≡ with_reg self register value }
     {
-        let mut regs = self.regs;
-        memory::write(&mut regs, register as usize, value);
-        self.regs = regs;
+        memory::write(&mut self.regs, register as usize, value);
         self
     }
 
     pub fn get_register_word(self, low: u8) -> u16
         ensures { result ≡ word self low }
     {
-        let regs = self.regs;
-        memory::read_word(&regs, low as usize)
+        memory::read_word(&self.regs, low as usize)
     }
 
     pub fn set_register_word(mut self, low: u8, value: u16) -> Core
         ensures { result ≡ with_word self low value }
     {
-        let mut regs = self.regs;
-        lent::put_word(&mut regs, low, value);
-        self.regs = regs;
+        lent::put_word(&mut self.regs, low, value);
         self
     }
 

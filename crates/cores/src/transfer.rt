@@ -69,7 +69,7 @@ impl Core {
     {
         let address = self.get_register_word(pointer);
         if dec {
-            std::num::wrapping_sub_u16(address, 1)
+            address.wrapping_sub(1)
         } else {
             address
         }
@@ -93,7 +93,7 @@ impl Core {
         let k = self.set_word_if(dec, pointer, address);
         let value = k.get_data_space(address as usize + q as usize, data);
         k.put_register(d, value)
-            .set_word_if(inc, pointer, std::num::wrapping_add_u16(address, 1))
+            .set_word_if(inc, pointer, address.wrapping_add(1))
     }
 
     pub fn st(mut self, r: u8, pointer: u8, q: u8, dec: bool, inc: bool, data: &mut [u8]) -> Core
@@ -103,7 +103,7 @@ impl Core {
         let address = self.pointed(pointer, dec);
         let k = self.set_word_if(dec, pointer, address);
         let k = k.set_data_space(address as usize + q as usize, k.get_register(r), data);
-        k.set_word_if(inc, pointer, std::num::wrapping_add_u16(address, 1))
+        k.set_word_if(inc, pointer, address.wrapping_add(1))
     }
 
     pub fn ldi(self, d: u8, K: u8) -> Core
@@ -125,7 +125,7 @@ impl Core {
         self.busy = 2;
         let address = self.get_register_word(pointer::Z);
         self.put_register(d, memory::read(program, address as usize))
-            .set_word_if(inc, pointer::Z, std::num::wrapping_add_u16(address, 1))
+            .set_word_if(inc, pointer::Z, address.wrapping_add(1))
     }
 
     pub fn mov(self, d: u8, r: u8) -> Core
@@ -150,7 +150,7 @@ impl Core {
         ensures { result ≡ pop_of self d «data».now }
     {
         self.busy = 1; // 2 for AVRrc
-        self.sp = std::num::wrapping_add_u16(self.sp, 1);
+        self.sp = self.sp.wrapping_add(1);
         self.put_register(d, self.get_data_space(self.sp as usize, data))
     }
 
@@ -158,7 +158,7 @@ impl Core {
         ensures { Leaves (push_of self r «data».old) result «data».new }
     {
         let mut k = self.set_data_space(self.sp as usize, self.get_register(r), data);
-        k.sp = std::num::wrapping_sub_u16(k.sp, 1);
+        k.sp = k.sp.wrapping_sub(1);
         k
     }
 
