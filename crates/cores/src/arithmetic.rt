@@ -30,14 +30,16 @@ impl Core {
     pub fn adc(mut self, d: u8, r: u8) -> Core
         ensures { result ≡ adc_of self d r }
     {
-        self.sreg = arithmetic::adc(&mut self.regs, d, r, self.sreg);
+        let sreg = self.sreg;
+        self.sreg = arithmetic::adc(&mut self.regs, d, r, sreg);
         self
     }
 
     pub fn add(mut self, d: u8, r: u8) -> Core
         ensures { result ≡ add_of self d r }
     {
-        self.sreg = arithmetic::add(&mut self.regs, d, r, self.sreg);
+        let sreg = self.sreg;
+        self.sreg = arithmetic::add(&mut self.regs, d, r, sreg);
         self
     }
 
@@ -45,7 +47,8 @@ impl Core {
         ensures { result ≡ adiw_of self d K }
     {
         self.busy = 1;
-        self.sreg = arithmetic::adiw(&mut self.regs, d, K, self.sreg, self.chip);
+        let Core { sreg, chip, .. } = self;
+        self.sreg = arithmetic::adiw(&mut self.regs, d, K, sreg, chip);
         self
     }
 
@@ -58,21 +61,24 @@ impl Core {
     pub fn andi(mut self, d: u8, K: u8) -> Core
         ensures { result ≡ and_of self d K }
     {
-        self.sreg = arithmetic::and(&mut self.regs, d, K, self.sreg);
+        let sreg = self.sreg;
+        self.sreg = arithmetic::and(&mut self.regs, d, K, sreg);
         self
     }
 
     pub fn com(mut self, d: u8) -> Core
         ensures { result ≡ com_of self d }
     {
-        self.sreg = arithmetic::com(&mut self.regs, d, self.sreg);
+        let sreg = self.sreg;
+        self.sreg = arithmetic::com(&mut self.regs, d, sreg);
         self
     }
 
     pub fn dec(mut self, d: u8) -> Core
         ensures { result ≡ dec_of self d }
     {
-        self.sreg = arithmetic::dec(&mut self.regs, d, self.sreg);
+        let sreg = self.sreg;
+        self.sreg = arithmetic::dec(&mut self.regs, d, sreg);
         self
     }
 
@@ -80,7 +86,8 @@ impl Core {
         ensures { result ≡ eor_of self d (reg self r) }
     {
         let Rr = self.get_register(r);
-        self.sreg = arithmetic::eor(&mut self.regs, d, Rr, self.sreg);
+        let sreg = self.sreg;
+        self.sreg = arithmetic::eor(&mut self.regs, d, Rr, sreg);
         self
     }
 
@@ -88,7 +95,8 @@ impl Core {
         ensures { result ≡ fmul_of self d r }
     {
         self.busy = 1;
-        self.sreg = products::fmul(&mut self.regs, d, r, self.sreg);
+        let sreg = self.sreg;
+        self.sreg = products::fmul(&mut self.regs, d, r, sreg);
         self
     }
 
@@ -96,7 +104,8 @@ impl Core {
         ensures { result ≡ fmuls_of self d r }
     {
         self.busy = 1;
-        self.sreg = products::fmuls(&mut self.regs, d, r, self.sreg);
+        let sreg = self.sreg;
+        self.sreg = products::fmuls(&mut self.regs, d, r, sreg);
         self
     }
 
@@ -104,14 +113,16 @@ impl Core {
         ensures { result ≡ fmulsu_of self d r }
     {
         self.busy = 1;
-        self.sreg = products::fmulsu(&mut self.regs, d, r, self.sreg);
+        let sreg = self.sreg;
+        self.sreg = products::fmulsu(&mut self.regs, d, r, sreg);
         self
     }
 
     pub fn inc(mut self, d: u8) -> Core
         ensures { result ≡ inc_of self d }
     {
-        self.sreg = arithmetic::inc(&mut self.regs, d, self.sreg);
+        let sreg = self.sreg;
+        self.sreg = arithmetic::inc(&mut self.regs, d, sreg);
         self
     }
 
@@ -119,7 +130,8 @@ impl Core {
         ensures { result ≡ mul_of self d r }
     {
         self.busy = 1;
-        self.sreg = products::mul(&mut self.regs, d, r, self.sreg);
+        let sreg = self.sreg;
+        self.sreg = products::mul(&mut self.regs, d, r, sreg);
         self
     }
 
@@ -127,7 +139,8 @@ impl Core {
         ensures { result ≡ muls_of self d r }
     {
         self.busy = 1;
-        self.sreg = products::muls(&mut self.regs, d, r, self.sreg);
+        let sreg = self.sreg;
+        self.sreg = products::muls(&mut self.regs, d, r, sreg);
         self
     }
 
@@ -135,14 +148,16 @@ impl Core {
         ensures { result ≡ mulsu_of self d r }
     {
         self.busy = 1;
-        self.sreg = products::mulsu(&mut self.regs, d, r, self.sreg);
+        let sreg = self.sreg;
+        self.sreg = products::mulsu(&mut self.regs, d, r, sreg);
         self
     }
 
     pub fn neg(mut self, d: u8) -> Core
         ensures { result ≡ neg_of self d }
     {
-        self.sreg = arithmetic::neg(&mut self.regs, d, self.sreg);
+        let sreg = self.sreg;
+        self.sreg = arithmetic::neg(&mut self.regs, d, sreg);
         self
     }
 
@@ -155,7 +170,8 @@ impl Core {
     pub fn ori(mut self, d: u8, val: u8) -> Core
         ensures { result ≡ or_of self d val }
     {
-        self.sreg = arithmetic::or(&mut self.regs, d, val, self.sreg);
+        let sreg = self.sreg;
+        self.sreg = arithmetic::or(&mut self.regs, d, val, sreg);
         self
     }
 
@@ -168,7 +184,8 @@ impl Core {
     pub fn sbci(mut self, d: u8, val: u8) -> Core
         ensures { result ≡ sbc_of self d val }
     {
-        self.sreg = arithmetic::sbc(&mut self.regs, d, val, self.sreg);
+        let sreg = self.sreg;
+        self.sreg = arithmetic::sbc(&mut self.regs, d, val, sreg);
         self
     }
 
@@ -176,7 +193,8 @@ impl Core {
         ensures { result ≡ sbiw_of self d K }
     {
         self.busy = 1;
-        self.sreg = arithmetic::sbiw(&mut self.regs, d, K, self.sreg);
+        let sreg = self.sreg;
+        self.sreg = arithmetic::sbiw(&mut self.regs, d, K, sreg);
         self
     }
 
@@ -189,7 +207,8 @@ impl Core {
     pub fn subi(mut self, d: u8, K: u8) -> Core
         ensures { result ≡ sub_of self d K }
     {
-        self.sreg = arithmetic::sub(&mut self.regs, d, K, self.sreg);
+        let sreg = self.sreg;
+        self.sreg = arithmetic::sub(&mut self.regs, d, K, sreg);
         self
     }
 }

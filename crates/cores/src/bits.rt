@@ -11,7 +11,8 @@ impl Core {
     pub fn asr(mut self, d: u8) -> Core
         ensures { result ≡ asr_of self d }
     {
-        self.sreg = bits::asr(&mut self.regs, d, self.sreg);
+        let sreg = self.sreg;
+        self.sreg = bits::asr(&mut self.regs, d, sreg);
         self
     }
 
@@ -24,11 +25,13 @@ impl Core {
     pub fn bld(mut self, d: u8, b: u8) -> Core
         ensures { result ≡ bld_of self d b }
     {
-        bits::bld(&mut self.regs, d, b, self.sreg);
+        let sreg = self.sreg;
+        bits::bld(&mut self.regs, d, b, sreg);
         self
     }
 
     // Under chip the instruction behind SEI is safe, as the one behind RETI is.
+    #[tactic(auto, unfolding(crate::specs::State::with_inhibit))]
     pub fn bset(self, b: u8) -> Core
         ensures { result ≡ bset_of self b }
     {
@@ -55,14 +58,16 @@ impl Core {
     pub fn lsr(mut self, d: u8) -> Core
         ensures { result ≡ lsr_of self d }
     {
-        self.sreg = bits::lsr(&mut self.regs, d, self.sreg);
+        let sreg = self.sreg;
+        self.sreg = bits::lsr(&mut self.regs, d, sreg);
         self
     }
 
     pub fn ror(mut self, d: u8) -> Core
         ensures { result ≡ ror_of self d }
     {
-        self.sreg = bits::ror(&mut self.regs, d, self.sreg);
+        let sreg = self.sreg;
+        self.sreg = bits::ror(&mut self.regs, d, sreg);
         self
     }
 

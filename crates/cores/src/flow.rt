@@ -30,6 +30,7 @@ use crate::lent::flow;
 use instruction::Instruction;
 
 impl Core {
+    #[tactic(auto, unfolding(crate::specs::Flow::brbx_of, crate::specs::State::with_pc, crate::specs::State::with_busy))]
     pub fn brbx(mut self, s: u8, k: u8, set: bool) -> Core
         ensures { result ≡ brbx_of self s k set }
     {
@@ -44,9 +45,9 @@ impl Core {
     pub fn push_word(mut self, value: u16, data: &mut [u8]) -> Core
         ensures { Leaves (word_pushed self value «data».old) result «data».new }
     {
-        memory::write(data, self.sp as usize, (value % 256) as u8);
-        let below = self.sp.wrapping_sub(1);
-        memory::write(data, below as usize, (value / 256) as u8);
+        let [low, high] = value.to_le_bytes();
+        memory::write(data, self.sp as usize, low);
+        memory::write(data, self.sp.wrapping_sub(1) as usize, high);
         self.sp = self.sp.wrapping_sub(2);
         self
     }
@@ -99,6 +100,7 @@ impl Core {
     }
 
     // Over the instruction at PC, of one word or of two.
+    #[tactic(auto, unfolding(crate::specs::Flow::skipped, crate::specs::State::with_pc, crate::specs::State::with_busy))]
     fn skip(mut self, taken: bool, program: &[u8]) -> Core
         ensures { result ≡ skipped self taken (two_at decode_of self program.now) }
     {
@@ -163,10 +165,11 @@ impl Core {
         let bh = memory::read(data, self.sp.wrapping_add(1) as usize);
         self.sp = self.sp.wrapping_add(2);
         let bl = memory::read(data, self.sp as usize);
-        self.pc = bh as u16 * 256 + bl as u16;
+        self.pc = u16::from_le_bytes([bl, bh]);
         self
     }
 
+    #[tactic(auto, unfolding(crate::specs::State::with_inhibit, crate::specs::State::with_service, crate::specs::State::with_sp, crate::specs::State::with_pc, crate::specs::State::with_busy))]
     pub fn reti(self, data: &[u8]) -> Core
         ensures { result ≡ reti_of self «data».now }
     {

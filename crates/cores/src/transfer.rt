@@ -20,38 +20,41 @@ ghost use Rattle.cores.specs.Transfer.{
 use crate::{Core, pointer};
 
 // Whether get_data_space and set_data_space find something at an address.
+#[tactic(auto, unfolding(crate::specs::Transfer::reach_of))]
 pub fn in_data_space(address: usize, data: &[u8]) -> bool
     ensures { result ≡ reach_of address (length «data».now) }
 {
     match address {
-        0x3F => true,
-        0x3E => true,
-        0x3D => true,
+        0x3D..=0x3F => true,
         _ => address < data.len(),
     }
 }
 
 impl Core {
     // The Rust's get_io_register too: below 64 the two agree.
+    #[tactic(auto, unfolding(crate::specs::Transfer::data_of))]
     pub fn get_data_space(self, address: usize, data: &[u8]) -> u8
         ensures { result ≡ data_of self address «data».now }
     {
+        let [low, high] = self.sp.to_le_bytes();
         match address {
             0x3F => self.sreg, // CPU.SREG
-            0x3E => (self.sp / 256) as u8, // CPU.SPH
-            0x3D => (self.sp % 256) as u8, // CPU.SPL
+            0x3E => high, // CPU.SPH
+            0x3D => low, // CPU.SPL
             _ => memory::read(data, address),
         }
     }
 
     // The Rust's set_io_register too.
+    #[tactic(auto, unfolding(crate::specs::Transfer::set_data_of, crate::specs::State::with_sp))]
     pub fn set_data_space(mut self, address: usize, value: u8, data: &mut [u8]) -> Core
         ensures { Leaves (set_data_of self address value «data».old) result «data».new }
     {
+        let [low, high] = self.sp.to_le_bytes();
         match address {
             0x3F => self.sreg = value, // CPU.SREG
-            0x3E => self.sp = value as u16 * 256 + self.sp % 256, // CPU.SPH
-            0x3D => self.sp = self.sp / 256 * 256 + value as u16, // CPU.SPL
+            0x3E => self.sp = u16::from_le_bytes([low, value]), // CPU.SPH
+            0x3D => self.sp = u16::from_le_bytes([value, high]), // CPU.SPL
             _ => memory::write(data, address, value),
         }
         self
@@ -64,6 +67,7 @@ impl Core {
     }
 
     // The pointer, one lower where dec.
+    #[tactic(auto, unfolding(crate::specs::Transfer::pointed_of))]
     pub fn pointed(self, pointer: u8, dec: bool) -> u16
         ensures { result ≡ pointed_of self pointer dec }
     {
@@ -75,6 +79,7 @@ impl Core {
         }
     }
 
+    #[tactic(auto, unfolding(crate::specs::Transfer::word_if))]
     fn set_word_if(self, on: bool, pointer: u8, address: u16) -> Core
         ensures { result ≡ word_if self on pointer address }
     {
@@ -112,6 +117,7 @@ impl Core {
         self.put_register(d, K)
     }
 
+    #[tactic(auto, unfolding(crate::specs::State::with_busy, crate::specs::Transfer::data_of))]
     pub fn lds(mut self, d: u8, k: u16, data: &[u8]) -> Core
         ensures { result ≡ lds_of self d k «data».now }
     {

@@ -132,7 +132,7 @@ pub fn neg(regs: &mut [u8], d: u8, sreg: u8) -> u8
 {
     // Rd <- ~Rd + 1
     let Rd = memory::read(regs, d as usize);
-    let R = 0u8.wrapping_sub(Rd);
+    let R = Rd.wrapping_neg();
     let H = basis::bit(R, 3) | basis::bit(Rd, 3);
     memory::write(regs, d as usize, R);
     flags::cznvsh(sreg, R != 0, R == 0, R >= 128, R == 0x80, H)
