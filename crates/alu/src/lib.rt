@@ -81,11 +81,11 @@ pub fn minus_word(a: u16, n: u8) -> WordSum
     }
 }
 
-// The 16 bits of a signed byte.
+// The 16 bits of a signed byte. By `cast_signed` a tick of the run took 2 instructions more.
 pub fn signed(a: u8) -> u16
     ensures { result ≡ signed_of a }
 {
-    i16::from(a.cast_signed()).cast_unsigned()
+    a as u16 + (a / 128) as u16 * 65280
 }
 
 // The 16 bits of a product of two numbers of 16 bits: a signed factor comes as `signed` gives it.
