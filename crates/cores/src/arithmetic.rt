@@ -30,18 +30,16 @@ impl Core {
     pub fn adc(mut self, d: u8, r: u8) -> Core
         ensures { result ≡ adc_of self d r }
     {
-        let mut regs = self.regs;
-        self.sreg = arithmetic::adc(&mut regs, d, r, self.sreg);
-        self.regs = regs;
+        let sreg = self.sreg;
+        self.sreg = arithmetic::adc(&mut self.regs, d, r, sreg);
         self
     }
 
     pub fn add(mut self, d: u8, r: u8) -> Core
         ensures { result ≡ add_of self d r }
     {
-        let mut regs = self.regs;
-        self.sreg = arithmetic::add(&mut regs, d, r, self.sreg);
-        self.regs = regs;
+        let sreg = self.sreg;
+        self.sreg = arithmetic::add(&mut self.regs, d, r, sreg);
         self
     }
 
@@ -49,9 +47,8 @@ impl Core {
         ensures { result ≡ adiw_of self d K }
     {
         self.busy = 1;
-        let mut regs = self.regs;
-        self.sreg = arithmetic::adiw(&mut regs, d, K, self.sreg, self.chip);
-        self.regs = regs;
+        let Core { sreg, chip, .. } = self;
+        self.sreg = arithmetic::adiw(&mut self.regs, d, K, sreg, chip);
         self
     }
 
@@ -64,27 +61,24 @@ impl Core {
     pub fn andi(mut self, d: u8, K: u8) -> Core
         ensures { result ≡ and_of self d K }
     {
-        let mut regs = self.regs;
-        self.sreg = arithmetic::and(&mut regs, d, K, self.sreg);
-        self.regs = regs;
+        let sreg = self.sreg;
+        self.sreg = arithmetic::and(&mut self.regs, d, K, sreg);
         self
     }
 
     pub fn com(mut self, d: u8) -> Core
         ensures { result ≡ com_of self d }
     {
-        let mut regs = self.regs;
-        self.sreg = arithmetic::com(&mut regs, d, self.sreg);
-        self.regs = regs;
+        let sreg = self.sreg;
+        self.sreg = arithmetic::com(&mut self.regs, d, sreg);
         self
     }
 
     pub fn dec(mut self, d: u8) -> Core
         ensures { result ≡ dec_of self d }
     {
-        let mut regs = self.regs;
-        self.sreg = arithmetic::dec(&mut regs, d, self.sreg);
-        self.regs = regs;
+        let sreg = self.sreg;
+        self.sreg = arithmetic::dec(&mut self.regs, d, sreg);
         self
     }
 
@@ -92,9 +86,8 @@ impl Core {
         ensures { result ≡ eor_of self d (reg self r) }
     {
         let Rr = self.get_register(r);
-        let mut regs = self.regs;
-        self.sreg = arithmetic::eor(&mut regs, d, Rr, self.sreg);
-        self.regs = regs;
+        let sreg = self.sreg;
+        self.sreg = arithmetic::eor(&mut self.regs, d, Rr, sreg);
         self
     }
 
@@ -102,9 +95,8 @@ impl Core {
         ensures { result ≡ fmul_of self d r }
     {
         self.busy = 1;
-        let mut regs = self.regs;
-        self.sreg = products::fmul(&mut regs, d, r, self.sreg);
-        self.regs = regs;
+        let sreg = self.sreg;
+        self.sreg = products::fmul(&mut self.regs, d, r, sreg);
         self
     }
 
@@ -112,9 +104,8 @@ impl Core {
         ensures { result ≡ fmuls_of self d r }
     {
         self.busy = 1;
-        let mut regs = self.regs;
-        self.sreg = products::fmuls(&mut regs, d, r, self.sreg);
-        self.regs = regs;
+        let sreg = self.sreg;
+        self.sreg = products::fmuls(&mut self.regs, d, r, sreg);
         self
     }
 
@@ -122,18 +113,16 @@ impl Core {
         ensures { result ≡ fmulsu_of self d r }
     {
         self.busy = 1;
-        let mut regs = self.regs;
-        self.sreg = products::fmulsu(&mut regs, d, r, self.sreg);
-        self.regs = regs;
+        let sreg = self.sreg;
+        self.sreg = products::fmulsu(&mut self.regs, d, r, sreg);
         self
     }
 
     pub fn inc(mut self, d: u8) -> Core
         ensures { result ≡ inc_of self d }
     {
-        let mut regs = self.regs;
-        self.sreg = arithmetic::inc(&mut regs, d, self.sreg);
-        self.regs = regs;
+        let sreg = self.sreg;
+        self.sreg = arithmetic::inc(&mut self.regs, d, sreg);
         self
     }
 
@@ -141,9 +130,8 @@ impl Core {
         ensures { result ≡ mul_of self d r }
     {
         self.busy = 1;
-        let mut regs = self.regs;
-        self.sreg = products::mul(&mut regs, d, r, self.sreg);
-        self.regs = regs;
+        let sreg = self.sreg;
+        self.sreg = products::mul(&mut self.regs, d, r, sreg);
         self
     }
 
@@ -151,9 +139,8 @@ impl Core {
         ensures { result ≡ muls_of self d r }
     {
         self.busy = 1;
-        let mut regs = self.regs;
-        self.sreg = products::muls(&mut regs, d, r, self.sreg);
-        self.regs = regs;
+        let sreg = self.sreg;
+        self.sreg = products::muls(&mut self.regs, d, r, sreg);
         self
     }
 
@@ -161,18 +148,16 @@ impl Core {
         ensures { result ≡ mulsu_of self d r }
     {
         self.busy = 1;
-        let mut regs = self.regs;
-        self.sreg = products::mulsu(&mut regs, d, r, self.sreg);
-        self.regs = regs;
+        let sreg = self.sreg;
+        self.sreg = products::mulsu(&mut self.regs, d, r, sreg);
         self
     }
 
     pub fn neg(mut self, d: u8) -> Core
         ensures { result ≡ neg_of self d }
     {
-        let mut regs = self.regs;
-        self.sreg = arithmetic::neg(&mut regs, d, self.sreg);
-        self.regs = regs;
+        let sreg = self.sreg;
+        self.sreg = arithmetic::neg(&mut self.regs, d, sreg);
         self
     }
 
@@ -185,9 +170,8 @@ impl Core {
     pub fn ori(mut self, d: u8, val: u8) -> Core
         ensures { result ≡ or_of self d val }
     {
-        let mut regs = self.regs;
-        self.sreg = arithmetic::or(&mut regs, d, val, self.sreg);
-        self.regs = regs;
+        let sreg = self.sreg;
+        self.sreg = arithmetic::or(&mut self.regs, d, val, sreg);
         self
     }
 
@@ -200,9 +184,8 @@ impl Core {
     pub fn sbci(mut self, d: u8, val: u8) -> Core
         ensures { result ≡ sbc_of self d val }
     {
-        let mut regs = self.regs;
-        self.sreg = arithmetic::sbc(&mut regs, d, val, self.sreg);
-        self.regs = regs;
+        let sreg = self.sreg;
+        self.sreg = arithmetic::sbc(&mut self.regs, d, val, sreg);
         self
     }
 
@@ -210,9 +193,8 @@ impl Core {
         ensures { result ≡ sbiw_of self d K }
     {
         self.busy = 1;
-        let mut regs = self.regs;
-        self.sreg = arithmetic::sbiw(&mut regs, d, K, self.sreg);
-        self.regs = regs;
+        let sreg = self.sreg;
+        self.sreg = arithmetic::sbiw(&mut self.regs, d, K, sreg);
         self
     }
 
@@ -225,9 +207,8 @@ impl Core {
     pub fn subi(mut self, d: u8, K: u8) -> Core
         ensures { result ≡ sub_of self d K }
     {
-        let mut regs = self.regs;
-        self.sreg = arithmetic::sub(&mut regs, d, K, self.sreg);
-        self.regs = regs;
+        let sreg = self.sreg;
+        self.sreg = arithmetic::sub(&mut self.regs, d, K, sreg);
         self
     }
 }

@@ -11,9 +11,8 @@ impl Core {
     pub fn asr(mut self, d: u8) -> Core
         ensures { result ≡ asr_of self d }
     {
-        let mut regs = self.regs;
-        self.sreg = bits::asr(&mut regs, d, self.sreg);
-        self.regs = regs;
+        let sreg = self.sreg;
+        self.sreg = bits::asr(&mut self.regs, d, sreg);
         self
     }
 
@@ -26,13 +25,13 @@ impl Core {
     pub fn bld(mut self, d: u8, b: u8) -> Core
         ensures { result ≡ bld_of self d b }
     {
-        let mut regs = self.regs;
-        bits::bld(&mut regs, d, b, self.sreg);
-        self.regs = regs;
+        let sreg = self.sreg;
+        bits::bld(&mut self.regs, d, b, sreg);
         self
     }
 
     // Under chip the instruction behind SEI is safe, as the one behind RETI is.
+    #[tactic(auto, unfolding(crate::specs::State::with_inhibit))]
     pub fn bset(self, b: u8) -> Core
         ensures { result ≡ bset_of self b }
     {
@@ -44,8 +43,7 @@ impl Core {
     pub fn bst(mut self, d: u8, bit: u8) -> Core
         ensures { result ≡ bst_of self d bit }
     {
-        let regs = self.regs;
-        self.sreg = bits::bst(&regs, d, bit, self.sreg);
+        self.sreg = bits::bst(&self.regs, d, bit, self.sreg);
         self
     }
 
@@ -60,18 +58,16 @@ impl Core {
     pub fn lsr(mut self, d: u8) -> Core
         ensures { result ≡ lsr_of self d }
     {
-        let mut regs = self.regs;
-        self.sreg = bits::lsr(&mut regs, d, self.sreg);
-        self.regs = regs;
+        let sreg = self.sreg;
+        self.sreg = bits::lsr(&mut self.regs, d, sreg);
         self
     }
 
     pub fn ror(mut self, d: u8) -> Core
         ensures { result ≡ ror_of self d }
     {
-        let mut regs = self.regs;
-        self.sreg = bits::ror(&mut regs, d, self.sreg);
-        self.regs = regs;
+        let sreg = self.sreg;
+        self.sreg = bits::ror(&mut self.regs, d, sreg);
         self
     }
 
@@ -85,9 +81,7 @@ impl Core {
     pub fn swap(mut self, d: u8) -> Core
         ensures { result ≡ swap_of self d }
     {
-        let mut regs = self.regs;
-        bits::swap(&mut regs, d);
-        self.regs = regs;
+        bits::swap(&mut self.regs, d);
         self
     }
 }
