@@ -5,7 +5,7 @@ use mathlib.Core.Path.{◌≡◌, refl, sym, ◌∙◌, ap}
 use Prim.Native.Nat.{ℕ}
 use Rattle.basis.proofs.Choice.{clash}
 use Rattle.basis.specs.Pick.{pick}
-use Rattle.encode.specs.declared.Encoded.{Encoded}
+use Rattle.encode.specs.Encode.{Encoded}
 use Rattle.encode.specs.Encode.{refused, bare_of, in_one, in_two}
 
 pub outside : (t : Bool) (e x : Encoded) → t ≡ false → e ≡ refused 33 → e ≡ pick t x (refused 33)

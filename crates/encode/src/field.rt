@@ -1,6 +1,7 @@
-// The fields that not every number is inside of.
-ghost use Rattle.std.specs.Prelude.{◌≡◌};
+// The fields that not every number is inside of, as words.
+ghost use Rattle.std.specs.Prelude.{◌≡◌, ltb};
 ghost use Rattle.encode.specs.Encode.{
+  field_of,
   is_register,
   is_high,
   is_low,
@@ -11,56 +12,77 @@ ghost use Rattle.encode.specs.Encode.{
   is_offset12,
 };
 
+use crate::Refusal;
+
 // R0 to R31.
-pub(crate) fn is_register(d: u8) -> bool
-    ensures { result ≡ is_register d }
+pub(crate) fn register(d: u8) -> Result<u16, Refusal>
+    ensures { result ≡ field_of (is_register d) d }
 {
-    d < 32
+    inside(d < 32, d as u16)
 }
 
 // R16 to R31.
-pub(crate) fn is_high(d: u8) -> bool
-    ensures { result ≡ is_high d }
+pub(crate) fn high(d: u8) -> Result<u16, Refusal>
+    ensures { result ≡ field_of (is_high d) d }
 {
-    (d >= 16) & (d < 32)
+    inside((d >= 16) & (d < 32), d as u16)
 }
 
 // R16 to R23.
-pub(crate) fn is_low(d: u8) -> bool
-    ensures { result ≡ is_low d }
+pub(crate) fn low(d: u8) -> Result<u16, Refusal>
+    ensures { result ≡ field_of (is_low d) d }
 {
-    (d >= 16) & (d < 24)
+    inside((d >= 16) & (d < 24), d as u16)
 }
 
 // The lower register of a pair.
-pub(crate) fn is_pair(d: u8) -> bool
-    ensures { result ≡ is_pair d }
+pub(crate) fn pair(d: u8) -> Result<u16, Refusal>
+    ensures { result ≡ field_of (is_pair d) d }
 {
-    (d < 32) & (d % 2 == 0)
+    inside((d < 32) & (d % 2 == 0), d as u16)
 }
 
 // The lower register of one of the last four pairs.
-pub(crate) fn is_last_pair(d: u8) -> bool
-    ensures { result ≡ is_last_pair d }
+pub(crate) fn last_pair(d: u8) -> Result<u16, Refusal>
+    ensures { result ≡ field_of (is_last_pair d) d }
 {
-    (d >= 24) & is_pair(d)
+    inside((d >= 24) & ((d < 32) & (d % 2 == 0)), d as u16)
 }
 
-pub(crate) fn is_bit(b: u8) -> bool
-    ensures { result ≡ is_bit b }
+pub(crate) fn bit(b: u8) -> Result<u16, Refusal>
+    ensures { result ≡ field_of (is_bit b) b }
 {
-    b < 8
+    inside(b < 8, b as u16)
+}
+
+// Five and six bits.
+pub(crate) fn five(A: u8) -> Result<u16, Refusal>
+    ensures { result ≡ field_of (ltb A 32) A }
+{
+    inside(A < 32, A as u16)
+}
+
+pub(crate) fn six(A: u8) -> Result<u16, Refusal>
+    ensures { result ≡ field_of (ltb A 64) A }
+{
+    inside(A < 64, A as u16)
 }
 
 // Offsets in two's complement, of 7 bits as a byte and of 12 bits as a word.
-pub(crate) fn is_offset7(k: u8) -> bool
-    ensures { result ≡ is_offset7 k }
+pub(crate) fn offset7(k: u8) -> Result<u16, Refusal>
+    ensures { result ≡ field_of (is_offset7 k) k }
 {
-    (k < 64) | (k >= 192)
+    inside((k < 64) | (k >= 192), k as u16)
 }
 
-pub(crate) fn is_offset12(k: u16) -> bool
-    ensures { result ≡ is_offset12 k }
+pub(crate) fn offset12(k: u16) -> Result<u16, Refusal>
+    ensures { result ≡ field_of (is_offset12 k) k }
 {
-    (k < 2048) | (k >= 63488)
+    inside((k < 2048) | (k >= 63488), k)
+}
+
+fn inside(test: bool, field: u16) -> Result<u16, Refusal>
+    ensures { result ≡ field_of test field }
+{
+    if test { Ok(field) } else { Err(Refusal::Outside) }
 }
