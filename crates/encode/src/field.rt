@@ -1,71 +1,37 @@
 // The fields that not every number is inside of, as words.
-ghost use Rattle.std.specs.Prelude.{◌≡◌, ltb};
-ghost use Rattle.encode.specs.Encode.{
-  field_of,
-  is_register,
-  is_high,
-  is_low,
-  is_pair,
-  is_last_pair,
-  is_bit,
-  is_offset7,
-  is_offset12,
-};
+ghost use Rattle.std.specs.Prelude.{◌≡◌, ◌&&◌, ◌%◌, eqb, ltb, leb};
+ghost use Rattle.encode.specs.Encode.{field_of, is_offset7, is_offset12};
 
 use crate::Refusal;
+use std::ops::Range;
 
-// R0 to R31.
-pub(crate) fn register(d: u8) -> Result<u16, Refusal>
-    ensures { result ≡ field_of (is_register d) d }
-{
-    inside(d < 32, d as u16)
-}
+// R0 to R31; R16 to R31; R16 to R23; and R24 to R31, of which ADIW and SBIW name the pairs.
+pub(crate) const REGISTERS: Range<u8> = 0..32;
 
-// R16 to R31.
-pub(crate) fn high(d: u8) -> Result<u16, Refusal>
-    ensures { result ≡ field_of (is_high d) d }
-{
-    inside((d >= 16) & (d < 32), d as u16)
-}
+pub(crate) const HIGH: Range<u8> = 16..32;
 
-// R16 to R23.
-pub(crate) fn low(d: u8) -> Result<u16, Refusal>
-    ensures { result ≡ field_of (is_low d) d }
+pub(crate) const LOW: Range<u8> = 16..24;
+
+pub(crate) const LAST: Range<u8> = 24..32;
+
+// Bits of a byte; numbers of five bits, and of six.
+pub(crate) const BITS: Range<u8> = 0..8;
+
+pub(crate) const FIVE: Range<u8> = 0..32;
+
+pub(crate) const SIX: Range<u8> = 0..64;
+
+pub(crate) fn within(field: Range<u8>, x: u8) -> Result<u16, Refusal>
+    ensures { result ≡ field_of (leb field.start x && ltb x field.end) x }
 {
-    inside((d >= 16) & (d < 24), d as u16)
+    inside(field.contains(&x), x as u16)
 }
 
 // The lower register of a pair.
-pub(crate) fn pair(d: u8) -> Result<u16, Refusal>
-    ensures { result ≡ field_of (is_pair d) d }
+pub(crate) fn pair(field: Range<u8>, d: u8) -> Result<u16, Refusal>
+    ensures { result ≡ field_of (leb field.start d && (ltb d field.end && eqb (d % 2) 0)) d }
 {
-    inside((d < 32) & (d % 2 == 0), d as u16)
-}
-
-// The lower register of one of the last four pairs.
-pub(crate) fn last_pair(d: u8) -> Result<u16, Refusal>
-    ensures { result ≡ field_of (is_last_pair d) d }
-{
-    inside((d >= 24) & ((d < 32) & (d % 2 == 0)), d as u16)
-}
-
-pub(crate) fn bit(b: u8) -> Result<u16, Refusal>
-    ensures { result ≡ field_of (is_bit b) b }
-{
-    inside(b < 8, b as u16)
-}
-
-// Five and six bits.
-pub(crate) fn five(A: u8) -> Result<u16, Refusal>
-    ensures { result ≡ field_of (ltb A 32) A }
-{
-    inside(A < 32, A as u16)
-}
-
-pub(crate) fn six(A: u8) -> Result<u16, Refusal>
-    ensures { result ≡ field_of (ltb A 64) A }
-{
-    inside(A < 64, A as u16)
+    inside(field.contains(&d) & (d % 2 == 0), d as u16)
 }
 
 // Offsets in two's complement, of 7 bits as a byte and of 12 bits as a word.
@@ -84,5 +50,9 @@ pub(crate) fn offset12(k: u16) -> Result<u16, Refusal>
 fn inside(test: bool, field: u16) -> Result<u16, Refusal>
     ensures { result ≡ field_of test field }
 {
-    if test { Ok(field) } else { Err(Refusal::Outside) }
+    if test {
+        Ok(field)
+    } else {
+        Err(Refusal::Outside)
+    }
 }

@@ -1,4 +1,4 @@
-// Where the fields of an instruction stand in its word, a function a layout. An opcode comes with 0 for its fields.
+// Where the fields of an instruction stand in its word, a function a layout. An opcode comes with 0 for its fields, and each layout asks for as much room above it as its own fields take.
 ghost use Rattle.std.specs.Prelude.{◌≡◌, ◌+◌, ◌<◌};
 ghost use Rattle.encode.specs.Encode.{
   said,
@@ -21,7 +21,8 @@ ghost use Rattle.encode.specs.Encode.{
   data_address_of,
 };
 
-use crate::{Refusal, Words, field};
+use crate::field::*;
+use crate::{Refusal, Words};
 
 pub(crate) fn bare(opcode: u16) -> Result<Words, Refusal>
     ensures { said result ≡ bare_of opcode }
@@ -34,7 +35,7 @@ pub(crate) fn register(opcode: u16, d: u8) -> Result<Words, Refusal>
     requires { opcode + 496 < 65536 }
     ensures { said result ≡ register_of opcode d }
 {
-    let d = field::register(d)?;
+    let d = within(REGISTERS, d)?;
     bare(opcode + d * 16)
 }
 
@@ -43,8 +44,8 @@ pub(crate) fn registers(opcode: u16, d: u8, r: u8) -> Result<Words, Refusal>
     requires { opcode + 1023 < 65536 }
     ensures { said result ≡ registers_of opcode d r }
 {
-    let d = field::register(d)?;
-    let r = field::register(r)?;
+    let d = within(REGISTERS, d)?;
+    let r = within(REGISTERS, r)?;
     bare(opcode + r / 16 * 512 + d * 16 + r % 16)
 }
 
@@ -53,8 +54,8 @@ pub(crate) fn high_registers(opcode: u16, d: u8, r: u8) -> Result<Words, Refusal
     requires { opcode + 255 < 65536 }
     ensures { said result ≡ high_registers_of opcode d r }
 {
-    let d = field::high(d)?;
-    let r = field::high(r)?;
+    let d = within(HIGH, d)?;
+    let r = within(HIGH, r)?;
     bare(opcode + d % 16 * 16 + r % 16)
 }
 
@@ -63,8 +64,8 @@ pub(crate) fn low_registers(opcode: u16, d: u8, r: u8) -> Result<Words, Refusal>
     requires { opcode + 119 < 65536 }
     ensures { said result ≡ low_registers_of opcode d r }
 {
-    let d = field::low(d)?;
-    let r = field::low(r)?;
+    let d = within(LOW, d)?;
+    let r = within(LOW, r)?;
     bare(opcode + d % 8 * 16 + r % 8)
 }
 
@@ -73,8 +74,8 @@ pub(crate) fn pairs(opcode: u16, d: u8, r: u8) -> Result<Words, Refusal>
     requires { opcode + 255 < 65536 }
     ensures { said result ≡ pairs_of opcode d r }
 {
-    let d = field::pair(d)?;
-    let r = field::pair(r)?;
+    let d = pair(REGISTERS, d)?;
+    let r = pair(REGISTERS, r)?;
     bare(opcode + d / 2 * 16 + r / 2)
 }
 
@@ -83,7 +84,7 @@ pub(crate) fn constant(opcode: u16, d: u8, K: u8) -> Result<Words, Refusal>
     requires { opcode + 4095 < 65536 }
     ensures { said result ≡ constant_of opcode d K }
 {
-    let d = field::high(d)?;
+    let d = within(HIGH, d)?;
     let K = K as u16;
     bare(opcode + K / 16 * 256 + d % 16 * 16 + K % 16)
 }
@@ -93,8 +94,8 @@ pub(crate) fn pair_constant(opcode: u16, d: u8, K: u8) -> Result<Words, Refusal>
     requires { opcode + 255 < 65536 }
     ensures { said result ≡ pair_constant_of opcode d K }
 {
-    let d = field::last_pair(d)?;
-    let K = field::six(K)?;
+    let d = pair(LAST, d)?;
+    let K = within(SIX, K)?;
     bare(opcode + K / 16 * 64 + d / 2 % 4 * 16 + K % 16)
 }
 
@@ -103,8 +104,8 @@ pub(crate) fn register_bit(opcode: u16, d: u8, b: u8) -> Result<Words, Refusal>
     requires { opcode + 503 < 65536 }
     ensures { said result ≡ register_bit_of opcode d b }
 {
-    let d = field::register(d)?;
-    let b = field::bit(b)?;
+    let d = within(REGISTERS, d)?;
+    let b = within(BITS, b)?;
     bare(opcode + d * 16 + b)
 }
 
@@ -113,8 +114,8 @@ pub(crate) fn port_bit(opcode: u16, A: u8, b: u8) -> Result<Words, Refusal>
     requires { opcode + 255 < 65536 }
     ensures { said result ≡ port_bit_of opcode A b }
 {
-    let A = field::five(A)?;
-    let b = field::bit(b)?;
+    let A = within(FIVE, A)?;
+    let b = within(BITS, b)?;
     bare(opcode + A * 8 + b)
 }
 
@@ -123,8 +124,8 @@ pub(crate) fn port(opcode: u16, d: u8, A: u8) -> Result<Words, Refusal>
     requires { opcode + 2047 < 65536 }
     ensures { said result ≡ port_of opcode d A }
 {
-    let d = field::register(d)?;
-    let A = field::six(A)?;
+    let d = within(REGISTERS, d)?;
+    let A = within(SIX, A)?;
     bare(opcode + A / 16 * 512 + d * 16 + A % 16)
 }
 
@@ -133,8 +134,8 @@ pub(crate) fn displaced(opcode: u16, d: u8, q: u8) -> Result<Words, Refusal>
     requires { opcode + 11767 < 65536 }
     ensures { said result ≡ displaced_of opcode d q }
 {
-    let d = field::register(d)?;
-    let q = field::six(q)?;
+    let d = within(REGISTERS, d)?;
+    let q = within(SIX, q)?;
     bare(opcode + q / 32 * 8192 + q / 8 % 4 * 1024 + d * 16 + q % 8)
 }
 
@@ -143,7 +144,7 @@ pub(crate) fn flag(opcode: u16, s: u8) -> Result<Words, Refusal>
     requires { opcode + 112 < 65536 }
     ensures { said result ≡ flag_of opcode s }
 {
-    let s = field::bit(s)?;
+    let s = within(BITS, s)?;
     bare(opcode + s * 16)
 }
 
@@ -152,8 +153,8 @@ pub(crate) fn branch(opcode: u16, s: u8, k: u8) -> Result<Words, Refusal>
     requires { opcode + 1023 < 65536 }
     ensures { said result ≡ branch_of opcode s k }
 {
-    let s = field::bit(s)?;
-    let k = field::offset7(k)?;
+    let s = within(BITS, s)?;
+    let k = offset7(k)?;
     bare(opcode + k % 128 * 8 + s)
 }
 
@@ -162,7 +163,7 @@ pub(crate) fn relative(opcode: u16, k: u16) -> Result<Words, Refusal>
     requires { opcode + 4095 < 65536 }
     ensures { said result ≡ relative_of opcode k }
 {
-    let k = field::offset12(k)?;
+    let k = offset12(k)?;
     bare(opcode + k % 4096)
 }
 
@@ -183,6 +184,6 @@ pub(crate) fn data_address(opcode: u16, d: u8, k: u16) -> Result<Words, Refusal>
     requires { opcode + 496 < 65536 }
     ensures { said result ≡ data_address_of opcode d k }
 {
-    let d = field::register(d)?;
+    let d = within(REGISTERS, d)?;
     Ok(Words::Two(opcode + d * 16, k))
 }
