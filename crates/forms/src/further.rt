@@ -5,6 +5,7 @@ ghost use Rattle.forms.specs.Forms.{form, control_or_indirect, further_of};
 
 use crate::form::*;
 
+#[tactic(auto, unfolding(crate::specs::Forms::further_of))]
 pub(crate) fn further(opcode: u16) -> u8
     ensures { result ≡ further_of opcode }
 {
@@ -17,6 +18,7 @@ pub(crate) fn further(opcode: u16) -> u8
 }
 
 // 0x0300 to 0x03FF.
+#[tactic(auto, unfolding(instruction::specs::Decode::mulsu_to_fmulsu_of))]
 pub fn multiply(opcode: u16) -> u8
     ensures { result ≡ form (mulsu_to_fmulsu_of opcode) }
 {
@@ -39,6 +41,7 @@ fn control_or_indirect(opcode: u16) -> u8
 }
 
 // 0x9408 and each sixteenth word after it, to 0x95F8.
+#[tactic(auto, unfolding(instruction::specs::Decode::control_of))]
 pub fn control(opcode: u16) -> u8
     ensures { result ≡ form (control_of opcode) }
 {
@@ -56,6 +59,7 @@ pub fn control(opcode: u16) -> u8
 }
 
 // 0x9409 and each sixteenth word after it, to 0x95F9.
+#[tactic(auto, unfolding(instruction::specs::Decode::indirect_of))]
 pub fn indirect(opcode: u16) -> u8
     ensures { result ≡ form (indirect_of opcode) }
 {
