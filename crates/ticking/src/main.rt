@@ -12,10 +12,8 @@ fn after(first: Core, program: &[u8], data: &mut [u8], offer: Option<u16>, ticks
     ensures { record { core = result; bytes = «data».new } ≡ after_of ticks first program.now «data».old offer }
 {
     let mut core = first;
-    let mut left = ticks;
-    while left > 0 {
+    for _ in 0..ticks {
         tick::tick_in_place(&mut core, program, data, offer);
-        left -= 1;
     }
     core
 }
