@@ -3,7 +3,7 @@
 use Rattle.std.proofs.Common.{ℕ, ◌≤◌, get_or, replicate, refl, arith, w8, Fits, rules}
 use Rattle.basis.specs.Bytes.{Bytes}
 use Rattle.cores.specs.State.{Sound}
-use Rattle.run.proofs.Offers.{offer_in_range}
+use Rattle.invariants.specs.Ticks.{Offered}
 use Rattle.run.proofs.Through.{runs_none, runs_refused, runs_through}
 use Rattle.run.proofs.run.Statement.{statement}
 use Rattle.run.proofs.run.Tie as tie
@@ -21,6 +21,10 @@ sound c h =
       sp_lt = omega (arith, c.well_formed.0);
       busy_le = h;
     }
+
+-- a vector is a word, by its type
+in_range : (c : tie.Start) → Offered c.args.offer
+in_range c = search rules
 
 returns : tie.Need-returns-then-budget-eq0
 returns c =
@@ -43,7 +47,7 @@ returns_3 c =
     let m = a.«data».now in
     let program : Bytes p = record { byte_lt = λ i. omega (arith, c.shared_slice_known-1.given i) } in
     let bytes : Bytes m = record { byte_lt = λ i. omega (arith, c.slice_known-1.given i) } in
-    let vector = offer_in_range a.offer start.well_formed.1.1.1.0 in
+    let vector = in_range start in
     runs_through a.budget a.core (replicate 38 0) wrote.write.new.out p m a.offer (sound start c.if-core-gt4.false) refl wrote.write.ensures.bytes
     program bytes vector ran.run_in-over.result c.read-read.result ran.run_in-over.ensures c.read-read.ensures c.ended-2.ensures
 

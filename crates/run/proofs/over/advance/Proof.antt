@@ -14,7 +14,6 @@ use Rattle.run.specs.Lent.{offers}
 use Rattle.run.specs.Over.{said_by, tick_over, TickedOver, Stretches, rest_over, run_over}
 use Rattle.run.proofs.Unroll.{begun}
 use Rattle.run.proofs.Stretched.{long}
-use Rattle.run.proofs.Offers.{offer_in_range}
 use Rattle.run.proofs.Turns.{ends_spent, ends_refused, ends_stopped, ends_last, goes_on, next_read}
 use Rattle.run.proofs.over.advance.Statement.{statement}
 use Rattle.run.proofs.over.advance.Tie as tie
@@ -31,6 +30,10 @@ decreases_loop snapshot₀ program0 data₀ offer budget program on at₀ snapsh
 -- the part of a program from its first byte
 all : (p : List ℕ) → take (length p - 0) (drop 0 p) ≡ p
 all p = rw sub-zero (take_all (length p) p (omega arith))
+
+-- a vector is a word, by its type
+in_range : (c : tie.Start invariant_loop decreases_loop) → Offered c.args.offer
+in_range c = search rules
 
 -- where a stretch ended: c is the place behind it
 module _ (c : tie.After-slice_known-in-loop-program-2-1 invariant_loop decreases_loop) where
@@ -127,7 +130,7 @@ module _ (c : tie.After-slice_known-in-loop-program-2-1 invariant_loop decreases
   program_bytes = record { byte_lt = λ i. omega (arith, c.shared_slice_known-1.given i) }
 
   vector : Offered o
-  vector = offer_in_range o start.well_formed.1.1.1.0
+  vector = in_range start
 
 -- where a whole tick followed it: c is the place behind its number
 module _ (c : tie.After-number-number invariant_loop decreases_loop) where
