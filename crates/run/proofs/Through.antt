@@ -10,7 +10,7 @@ use Rattle.tick.specs.declared.Answer.TheVariants.{Refused}
 use Rattle.invariants.specs.Ticks.{Offered}
 use Rattle.invariants.proofs.Ticks.{ticks_stay_in_range}
 use Rattle.snapshot.specs.Snapshot.{read_of, write_of}
-use Rattle.snapshot.specs.declared.SnapshotRead.{SnapshotRead}
+use Rattle.snapshot.specs.Snapshot.{SnapshotRead}
 use Rattle.snapshot.proofs.RoundTrips.{reading_undoes_writing}
 use Rattle.run.specs.Run.{Run, Runs, ended, ran, run_of}
 use Rattle.run.specs.declared.Ran.{Ran}
