@@ -19,7 +19,7 @@ use Rattle.std.specs.Prelude.{None}
 use Rattle.invariants.specs.Ticks.{TickNumber}
 use Rattle.invariants.proofs.Ticks.{ticks_answer_tick_numbers}
 use Rattle.snapshot.specs.Snapshot.{read_of, write_of}
-use Rattle.snapshot.specs.declared.SnapshotRead.{SnapshotRead}
+use Rattle.snapshot.specs.Snapshot.{SnapshotRead}
 use Rattle.snapshot.proofs.RoundTrips.{writing_undoes_reading}
 use Rattle.run.specs.Run.{Run, Runs}
 use Rattle.run.specs.declared.Ran.{Ran}

@@ -1,4 +1,4 @@
--- `Copies`: a buffer filled from its start. `Fields`: of a core that was read. `RoundTrips`: reading undoes writing and the reverse, and old snapshots read as they did.
-pub mod Copies
+-- `Fields`: of a core that was read. `Laid`: six bytes behind 32. `RoundTrips`: reading undoes writing and the reverse, and old snapshots read as they did.
 pub mod Fields
+pub mod Laid
 pub mod RoundTrips

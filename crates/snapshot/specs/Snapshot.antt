@@ -1,12 +1,15 @@
 -- 01: "Snapshot, most significant bit first: R0 to R31, SREG, PC, SP, busy 3 bits, inhibit 1, in-service 1, three zero bits: 38 bytes."
 -- 02, W2: the rule choice "takes the first spare bit of the snapshot, 0 for source", so that two zero bits are left.
-use Rattle.std.specs.Prelude.{◌≡◌, List, [], ◌∷◌, ◌++◌, ℕ, ◌+◌, ◌*◌, ◌/◌, ◌%◌, eqb, ltb, get_or, take, length}
+use Rattle.std.specs.Prelude.{◌≡◌, List, [], ◌∷◌, ◌++◌, ℕ, ◌+◌, ◌*◌, ◌/◌, ◌%◌, eqb, ltb, get_or, take, length, Result, Ok, Err}
 use Rattle.basis.specs.Pick.{pick}
 use Rattle.basis.specs.Bit.{one}
 use Rattle.basis.specs.Bytes.{Bytes}
 use Rattle.cores.specs.declared.Core.{Core}
 use Rattle.cores.specs.State.{fresh_of, with_regs, with_sreg, with_pc, with_busy, with_inhibit, with_service, with_chip, Sound}
-use Rattle.snapshot.specs.declared.SnapshotRead.{SnapshotRead}
+use Rattle.snapshot.specs.declared.Unreadable.{Unreadable}
+use Rattle.snapshot.specs.declared.Unreadable.TheVariants as unreadable
+use Rattle.snapshot.specs.declared.Unwritable.{Unwritable}
+use Rattle.snapshot.specs.declared.Unwritable.TheVariants as unwritable
 
 -- a core's 38 bytes
 abbrev pub bytes_of : Core → List ℕ
@@ -41,9 +44,33 @@ pub record Writes (w : Written) (n : ℕ) (s : List ℕ) : Type 0 where
   pub refusal : n ≡ w.refusal
   pub bytes : s ≡ w.bytes
 
--- ---- reading: "7, 8, 9 refused: snapshot not 38 bytes; busy field above 4; spare bits not zero"; 02, W2: "9 now covers the two remaining spare bits"
+-- the number of each refusal, and of what the code hands back
+abbrev pub unwritable_number : Unwritable → ℕ
+unwritable_number unwritable.Length = 7
+unwritable_number unwritable.Busy = 5
+
+abbrev pub said_write : Result Unit Unwritable → ℕ
+said_write (Ok x) = 0
+said_write (Err e) = unwritable_number e
+
+-- ---- reading: a refusal's number, 0 for none, and the core, a fresh one where the bytes are refused
+-- "7, 8, 9 refused: snapshot not 38 bytes; busy field above 4; spare bits not zero"; 02, W2: "9 now covers the two remaining spare bits"
+pub record SnapshotRead : Type 0 where
+  pub refusal : ℕ
+  pub core : Core
+
 abbrev pub refused_read : ℕ → SnapshotRead
 refused_read n = record { refusal = n; core = fresh_of 0 }
+
+-- the number of each refusal, and what the code hands back says
+abbrev pub unreadable_number : Unreadable → ℕ
+unreadable_number unreadable.Length = 7
+unreadable_number unreadable.Busy = 8
+unreadable_number unreadable.Spare = 9
+
+abbrev pub said_read : Result Core Unreadable → SnapshotRead
+said_read (Ok k) = record { refusal = 0; core = k }
+said_read (Err e) = refused_read (unreadable_number e)
 
 -- 9 where the last byte is no multiple of `spare`; the core is what `says` makes of the bytes
 abbrev pub read_by : ℕ → (List ℕ → Core) → List ℕ → SnapshotRead

@@ -1,22 +1,58 @@
-// Snapshots: a core as 38 bytes. A refusal is 0 where there is none.
+// Snapshots: a core as 38 bytes.
 #![tactic(auto)]
 
 ghost use Rattle.std.specs.Prelude.{◌≡◌, ◌+◌, ◌*◌, ◌≤◌, length};
 ghost use Rattle.basis.specs.Bit.{one};
-ghost use Rattle.snapshot.specs.Snapshot.{bytes_of, core_of, write_of, read_of, refused_read, Writes};
+ghost use Rattle.snapshot.specs.Snapshot.{
+  bytes_of,
+  core_of,
+  write_of,
+  read_of,
+  unreadable_number,
+  unwritable_number,
+  said_read,
+  said_write,
+  Writes,
+};
 
 use cores::Core;
 
-#[derive(Clone, Copy)]
-pub struct SnapshotRead {
-    pub refusal: u8,
-    pub core: Core,
+// Why bytes are no snapshot: they are not 38; busy is above 4; a spare bit is set.
+#[derive(Clone, Copy, Debug, PartialEq, Eq)]
+pub enum Unreadable {
+    Length,
+    Busy,
+    Spare,
 }
 
-fn word(high: u8, low: u8) -> u16
-    ensures { result ≡ high * 256 + low }
-{
-    high as u16 * 256 + low as u16
+// Why a core is not written: the buffer is not 38 bytes; busy is above 4.
+#[derive(Clone, Copy, Debug, PartialEq, Eq)]
+pub enum Unwritable {
+    Length,
+    Busy,
+}
+
+impl From<Unreadable> for u8 {
+    ghost from_gives = { λ e n. n ≡ unreadable_number e };
+
+    fn from(refusal: Unreadable) -> u8 {
+        match refusal {
+            Unreadable::Length => 7,
+            Unreadable::Busy => 8,
+            Unreadable::Spare => 9,
+        }
+    }
+}
+
+impl From<Unwritable> for u8 {
+    ghost from_gives = { λ e n. n ≡ unwritable_number e };
+
+    fn from(refusal: Unwritable) -> u8 {
+        match refusal {
+            Unwritable::Length => 7,
+            Unwritable::Busy => 5,
+        }
+    }
 }
 
 // busy 3 bits, inhibit, in-service, the rule, two zero bits.
@@ -31,19 +67,12 @@ fn bytes_of(core: Core) -> [u8; 38]
     requires { core.busy ≤ 4 }
     ensures { result ≡ bytes_of core }
 {
-    let regs = core.regs;
+    let [pc_high, pc_low] = core.pc.to_be_bytes();
+    let [sp_high, sp_low] = core.sp.to_be_bytes();
+    let last = last_byte(core.busy, core.inhibit, core.in_service, core.chip);
     let mut out = [0u8; 38];
-    let mut i: usize = 0;
-    while i < 32 {
-        out[i] = regs[i];
-        i += 1;
-    }
-    out[32] = core.sreg;
-    out[33] = (core.pc / 256) as u8;
-    out[34] = (core.pc % 256) as u8;
-    out[35] = (core.sp / 256) as u8;
-    out[36] = (core.sp % 256) as u8;
-    out[37] = last_byte(core.busy, core.inhibit, core.in_service, core.chip);
+    out[..32].copy_from_slice(&core.regs);
+    out[32..].copy_from_slice(&[core.sreg, pc_high, pc_low, sp_high, sp_low, last]);
     out
 }
 
@@ -52,17 +81,13 @@ fn core_of(bytes: &[u8]) -> Core
     ensures { result ≡ core_of bytes.now }
 {
     let mut regs = [0u8; 32];
-    let mut i: usize = 0;
-    while i < 32 {
-        regs[i] = bytes[i];
-        i += 1;
-    }
+    regs.copy_from_slice(&bytes[..32]);
     let last = bytes[37];
     Core {
         regs,
         sreg: bytes[32],
-        pc: word(bytes[33], bytes[34]),
-        sp: word(bytes[35], bytes[36]),
+        pc: u16::from_be_bytes([bytes[33], bytes[34]]),
+        sp: u16::from_be_bytes([bytes[35], bytes[36]]),
         busy: last / 32,
         inhibit: last / 16 % 2 == 1,
         in_service: last / 8 % 2 == 1,
@@ -71,48 +96,31 @@ fn core_of(bytes: &[u8]) -> Core
 }
 
 // The core's 38 bytes into a buffer of that length.
-pub fn write(core: Core, out: &mut [u8]) -> u8
-    ensures { Writes (write_of core out.old) result out.new }
+pub fn write(core: Core, out: &mut [u8]) -> Result<(), Unwritable>
+    ensures { Writes (write_of core out.old) (said_write result) out.new }
 {
     if out.len() != 38 {
-        return 7;
+        return Err(Unwritable::Length);
     }
     if core.busy > 4 {
-        return 5;
+        return Err(Unwritable::Busy);
     }
-    let bytes = bytes_of(core);
-    let mut i: usize = 0;
-    while i < 38 {
-        out[i] = bytes[i];
-        i += 1;
-    }
-    0
+    out.copy_from_slice(&bytes_of(core));
+    Ok(())
 }
 
-// The core that 38 bytes say; where they are refused, a fresh core with SP 0.
-pub fn read(bytes: &[u8]) -> SnapshotRead
-    ensures { result ≡ read_of bytes.now }
+// The core that 38 bytes say.
+pub fn read(bytes: &[u8]) -> Result<Core, Unreadable>
+    ensures { said_read result ≡ read_of bytes.now }
 {
     if bytes.len() != 38 {
-        return refused(7);
+        return Err(Unreadable::Length);
     }
     if bytes[37] / 32 > 4 {
-        return refused(8);
+        return Err(Unreadable::Busy);
     }
     if bytes[37] % 4 != 0 {
-        return refused(9);
+        return Err(Unreadable::Spare);
     }
-    SnapshotRead {
-        refusal: 0,
-        core: core_of(bytes),
-    }
-}
-
-fn refused(refusal: u8) -> SnapshotRead
-    ensures { result ≡ refused_read refusal }
-{
-    SnapshotRead {
-        refusal,
-        core: Core::fresh(0),
-    }
+    Ok(core_of(bytes))
 }

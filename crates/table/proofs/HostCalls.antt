@@ -19,7 +19,7 @@ use Rattle.tick.specs.Tick.{Tick, number_of, refuses, stops, tick_of}
 use Rattle.tick.proofs.Steps.{refused_keeps}
 use Rattle.run.specs.Run.{Run, ran, run_of, goes_on}
 use Rattle.run.proofs.Unroll.{step}
-use Rattle.snapshot.specs.declared.SnapshotRead.{SnapshotRead}
+use Rattle.snapshot.specs.Snapshot.{SnapshotRead}
 use Rattle.snapshot.specs.Snapshot.{bytes_of, core_of, write_of, read_of}
 use Rattle.snapshot.proofs.Fields.{pc_read, busy_read}
 use Rattle.snapshot.proofs.RoundTrips.{bytes_back}
