@@ -1,6 +1,6 @@
 -- The calls over a snapshot: refused by a check, and passed on.
 -- Assumes nothing.
-use Rattle.std.proofs.Common.{◌≡◌, ℕ, zero, suc, ◌+◌, ◌-◌, ◌*◌, ◌/◌, ◌%◌, ◌<◌, ◌≤◌, Bool, true, false, not, eqb, ltb, List, [], ◌∷◌, length, get_or, set, sym, refl, ap, ◌∙◌, inl, inr, arith, eq-eqb, ne_eqb, le-leb}
+use Rattle.std.proofs.Common.{◌≡◌, ℕ, zero, suc, ◌+◌, ◌-◌, ◌*◌, ◌/◌, ◌%◌, ◌<◌, ◌≤◌, Bool, true, false, not, eqb, ltb, List, [], ◌∷◌, length, get_or, set, sym, refl, ap, ◌∙◌, inl, inr, arith, eq-eqb, le-leb, Result, Ok, Err, IsOk}
 use borrow.Author.Tests.{lt-leb}
 use Rattle.basis.specs.Pick.{pick}
 use Rattle.basis.specs.Bit.{one}
@@ -10,14 +10,18 @@ use Rattle.cores.specs.declared.Core.{Core}
 use Rattle.cores.specs.State.{with_busy}
 use Rattle.tick.specs.Tick.{Tick, number_of, refuses, stops, tick_of}
 use Rattle.tick.specs.Offer.{Offer}
+use Rattle.tick.specs.declared.Answer.TheVariants.{Waited, Ran}
 use Rattle.tick.proofs.Steps.{busy_tick}
 use Rattle.invariants.specs.Ticks.{TickNumber}
 use Rattle.invariants.proofs.Ticks.{ticks_answer_tick_numbers}
-use Rattle.snapshot.specs.Snapshot.{bytes_of, core_of, refused_read, read_of, write_of}
+use Rattle.snapshot.specs.declared.Unreadable.{Unreadable}
+use Rattle.snapshot.specs.declared.Unreadable.TheVariants.{Length, Busy, Spare}
+use Rattle.snapshot.specs.Snapshot.{bytes_of, core_of, said_read, refused_read, read_of, write_of}
 use Rattle.snapshot.proofs.RoundTrips.{at_tail, bytes_back, written, writing_undoes_reading}
-use Rattle.run.specs.Run.{Run, spent, ran, run_of}
-use Rattle.run.specs.Over.{said_by, tick_over, run_over, ended_by, Advances, tick_in, TicksIn, run_in, RunsIn, of_check}
-use Rattle.run.specs.declared.over.Over.{Over}
+use Rattle.run.specs.Run.{Run, spent, ended_number, ended_by, ran, run_of}
+use Rattle.run.specs.Over.{said_by, tick_over, run_over, Advances, tick_in, TicksIn, passed, over_of, run_in, RunsIn, of_check}
+use Rattle.run.specs.declared.over.Last.{Last}
+use Rattle.run.proofs.Ends.{ends_have_their_numbers}
 use Rattle.run.proofs.Unroll.{step}
 use Rattle.run.proofs.Six.{stored}
 use Rattle.run.proofs.Stretched.{long, brief, said_busy}
@@ -33,37 +37,61 @@ one_tick : (k : Core) (p m : List ℕ) (o : Offer) → ((run_of 1 k p m o).core 
 unfolding ran
 one_tick k p m o = let t = tick_of k p m o in step_one (refuses t.answer) (stops t.answer) t
 
+-- ---- the checks
+abbrev pub ok_or : {A E : Type 0} → A → Result A E → A
+ok_or d (Ok x) = x
+ok_or d (Err e) = d
+
+-- a snapshot that reads as no refusal is read
+pub read_ok : (r : Result Core Unreadable) → (said_read r).refusal ≡ 0 → IsOk r
+read_ok (Ok k) h = refl
+read_ok (Err Length) h = absurd (omega (arith, h))
+read_ok (Err Busy) h = absurd (omega (arith, h))
+read_ok (Err Spare) h = absurd (omega (arith, h))
+
+-- where no check refuses
+pub passed_is : {A : Type 0} {n : ℕ} {x : A} → n ≡ 0 → passed n x ≡ Ok x
+passed_is h = rw h
+
+pub told_as : {A : Type 0} {n : ℕ} {x y : A} → n ≡ 0 → x ≡ y → Ok x ≡ passed n y
+told_as h e = rw (h, e)
+
 module _ (s p m : List ℕ) (o : Offer) where
-  module _ (h : (read_of s).refusal ≡ 0 → ⊥) where
-    pub tick_refused : {n : ℕ} → n ≡ (read_of s).refusal → TicksIn (tick_in s p m o) n s m
-    tick_refused e = rw (ne_eqb (read_of s).refusal 0 h) (record { number = e; snapshot = refl; bytes = refl })
-
-    pub run_refused : (b : ℕ) (a : Over) → a.answer ≡ (read_of s).refusal → a.ticks ≡ 0 → RunsIn (run_in s p m o b) a s m
-    run_refused b a e c = rw (ne_eqb (read_of s).refusal 0 h) (record { answer = e; count = c; snapshot = refl; bytes = refl })
-
   module _ (h : (read_of s).refusal ≡ 0) where
     pub tick_passed : {n : ℕ} {s' m' : List ℕ} → n ≡ number_of (tick_over s p m o).answer → s' ≡ (write_of (tick_over s p m o).core s).bytes → m' ≡ (tick_over s p m o).bytes
         → TicksIn (tick_in s p m o) n s' m'
     tick_passed e f g = rw (eq-eqb (read_of s).refusal 0 h) (record { number = e; snapshot = f; bytes = g })
 
     -- a run of one tick of a core that does not wait
-    pub tick_advanced : (x : Over) {s' m' : List ℕ} → Advances s p m o 1 x s' m' → (said_by s).busy ≡ 0 → TicksIn (tick_in s p m o) x.answer s' m'
+    pub tick_advanced : (x : Last) {s' m' : List ℕ} → Advances s p m o 1 x s' m' → (said_by s).busy ≡ 0 → TicksIn (tick_in s p m o) (number_of x.answer) s' m'
     tick_advanced x w f =
         let e = one_tick (said_by s) p m o in
-        tick_passed (w.one refl f) (w.snapshot ∙ ap (λ (k : Core). (write_of k s).bytes) e.0) (w.bytes ∙ e.1)
+        tick_passed (ap number_of (w.one refl f)) (w.snapshot ∙ ap (λ (k : Core). (write_of k s).bytes) e.0) (w.bytes ∙ e.1)
 
-    pub run_passed : (b : ℕ) (x a : Over) {s' m' : List ℕ} → Advances s p m o b x s' m' → a.answer ≡ ended_by x.answer → a.ticks ≡ x.ticks → RunsIn (run_in s p m o b) a s' m'
-    run_passed b x a w e c =
-        rw (eq-eqb (read_of s).refusal 0 h) (record { answer = e ∙ w.answer; count = c ∙ w.count; snapshot = w.snapshot; bytes = w.bytes })
+    pub run_passed : (b : ℕ) (x : Last) {s' m' : List ℕ} → Advances s p m o b x s' m' → RunsIn (run_in s p m o b) (ended_number (ended_by x.answer)) x.ticks s' m'
+    run_passed b x w =
+        rw (eq-eqb (read_of s).refusal 0 h)
+        (record { answer = ap ended_number w.answer ∙ ends_have_their_numbers (run_over b s p m o).answer; count = w.count; snapshot = w.snapshot; bytes = w.bytes })
+
+    -- as the code hands it back
+    pub tick_told : (x : Last) {s' m' : List ℕ} → Advances s p m o 1 x s' m' → (said_by s).busy ≡ 0 → Ok x.answer ≡ passed (read_of s).refusal (tick_over s p m o).answer
+    tick_told x w f = told_as h (w.one refl f)
+
+    pub run_told : (b : ℕ) (x : Last) {s' m' : List ℕ} → Advances s p m o b x s' m' → Ok (record { ended = ended_by x.answer; ticks = x.ticks }) ≡ passed (read_of s).refusal (over_of (run_over b s p m o))
+    run_told b x w = told_as h (rw (w.answer, w.count))
+
+    pub run_none_told : Ok (record { ended = ended_by Ran; ticks = 0 }) ≡ passed (read_of s).refusal (over_of (run_over 0 s p m o))
+    unfolding ran
+    run_none_told = told_as h refl
 
     module _ (bs : Bytes s) where
       kept : (write_of (said_by s) s).bytes ≡ s
       kept = ap (λ w. w.bytes) (writing_undoes_reading s s bs h (long s h))
 
       -- "Budget 0 answers 24 and reports 0, for every core."
-      pub run_none : (a : Over) → a.answer ≡ 24 → a.ticks ≡ 0 → RunsIn (run_in s p m o 0) a s m
+      pub run_none : RunsIn (run_in s p m o 0) 24 0 s m
       unfolding ran
-      run_none a e c = rw (eq-eqb (read_of s).refusal 0 h) (record { answer = e; count = c; snapshot = sym kept; bytes = refl })
+      run_none = rw (eq-eqb (read_of s).refusal 0 h) (record { answer = refl; count = refl; snapshot = sym kept; bytes = refl })
 
 -- ---- a wait
 -- a core's last byte alone is another where its busy is
@@ -80,6 +108,11 @@ unfolding with_busy
 left_busy k b h = omega arith
 
 module _ (s p m : List ℕ) (o : Offer) (h : (read_of s).refusal ≡ 0) (bs : Bytes s) (w : 32 ≤ get_or s 37 0) where
+  pub tick_waited : Ok Waited ≡ passed (read_of s).refusal (tick_over s p m o).answer
+  tick_waited =
+      told_as h (sym (ap (λ (x : Tick). x.answer)
+      (busy_tick (said_by s) p m o (get_or s 37 0 / 32 - 1) (said_busy s h ∙ omega (arith, w)) (omega (arith, brief s h)))))
+
   pub tick_waits : TicksIn (tick_in s p m o) 16 (set s 37 (get_or s 37 0 - 32)) m
   tick_waits =
       let k = said_by s in

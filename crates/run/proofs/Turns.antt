@@ -1,27 +1,31 @@
 -- One turn of a run over a snapshot: a stretch, then a whole tick.
 -- Assumes nothing.
-use Rattle.std.proofs.Common.{◌≡◌, ℕ, ◌+◌, ◌-◌, ◌<◌, ◌≤◌, true, false, List, length, get_or, take, drop, sym, refl, ap, ◌∙◌, arith, take-append-drop, length-take-le, lt-ltb}
-use Rattle.basis.specs.Pick.{pick}
+use Rattle.std.proofs.Common.{◌≡◌, ℕ, ◌+◌, ◌-◌, ◌<◌, ◌≤◌, ◌⊎◌, Bool, true, false, is_some, Result, Ok, Err, IsOk, Fits, w8, List, length, get_or, take, drop, sym, refl, ap, ◌∙◌, arith, take-append-drop, length-take-le, take_all, subst, inl, inr}
+use native.Mathlib.Nat.{sub-zero}
 use Rattle.basis.specs.Bytes.{Bytes}
 use Rattle.cores.specs.declared.Core.{Core}
 use Rattle.cores.specs.State.{fresh_of, with_regs, with_pc, with_busy, with_inhibit, with_service, with_chip, Sound}
-use Rattle.instruction.specs.Decode.{decode_of}
-use Rattle.execute.specs.declared.Done.{Done}
-use Rattle.execute.specs.declared.Done.TheVariants as done
-use Rattle.tick.specs.Tick.{Tick, number_of, refuses, stops, answer_of, tick_of}
-use Rattle.tick.proofs.Steps.{every_tick, performed}
+use Rattle.tick.specs.Tick.{Tick, refuses, stops, tick_of}
 use Rattle.tick.specs.Offer.{Offer}
 use Rattle.tick.specs.declared.Answer.{Answer}
 use Rattle.tick.specs.declared.Answer.TheVariants.{Ran}
 use Rattle.invariants.specs.Ticks.{Offered}
 use Rattle.invariants.proofs.Ticks.{ticks_stay_in_range}
-use Rattle.snapshot.specs.Snapshot.{core_of, read_of, write_of}
+use Rattle.snapshot.specs.Snapshot.{core_of, said_read, read_of, said_write, write_of}
+use Rattle.snapshot.specs.declared.Unreadable.{Unreadable}
+use Rattle.snapshot.specs.declared.Unwritable.{Unwritable}
+use Rattle.snapshot.specs.declared.Unwritable.TheVariants.{Length, Busy}
 use Rattle.snapshot.proofs.RoundTrips.{written, reading_undoes_writing, writing_undoes_reading}
-use Rattle.run.specs.Run.{Run, ended, after, run_of}
-use Rattle.run.specs.Over.{said_by, tick_over, rest_over, run_over, ended_by, Advances}
-use Rattle.run.specs.declared.over.Over.{Over}
+use Rattle.run.specs.Run.{Run, ended, ended_by, ended_of, after, run_of}
+use Rattle.run.specs.Over.{said_by, tick_over, TickedOver, Stretches, rest_over, run_over, Advances}
+use Rattle.run.specs.declared.over.Last.{Last}
+use Rattle.run.proofs.Ends.{kept, ended_kept}
 use Rattle.run.proofs.Unroll.{unroll_spent, unroll_refused, unroll_stopped, unroll_on}
 use Rattle.run.proofs.Stretched.{said, long, brief, front_bytes}
+
+-- bytes, by their type
+pub in_bytes : {s : List ℕ} → ((i : ℕ) → Fits w8 (get_or s i 0)) → Bytes s
+in_bytes h = record { byte_lt = λ i. (h i).fits }
 
 -- ---- the core that bytes say is one by its types
 module _ (s : List ℕ) (b : Bytes s) (h : (read_of s).refusal ≡ 0) where
@@ -49,6 +53,15 @@ module _ (s : List ℕ) (b : Bytes s) (h : (read_of s).refusal ≡ 0) where
   pub said_sound : Sound (said_by s)
   said_sound = rw (said s h) core_sound
 
+-- the core that was read, and one that is written
+pub core_read : (s : List ℕ) {r : Result Core Unreadable} {k : Core} → said_read r ≡ read_of s → r ≡ Ok k → k ≡ said_by s
+core_read s e f = ap (λ x. x.core) (sym (ap said_read f) ∙ e)
+
+write_ok : (r : Result (Unit {0}) Unwritable) → said_write r ≡ 0 → IsOk r
+write_ok (Ok x) h = refl
+write_ok (Err Length) h = absurd (omega (arith, h))
+write_ok (Err Busy) h = absurd (omega (arith, h))
+
 -- ---- a whole tick
 -- written into any 38 bytes
 into : (k : Core) (s s' : List ℕ) → Sound k → length s ≡ 38 → length s' ≡ 38 → (write_of k s).bytes ≡ (write_of k s').bytes
@@ -58,32 +71,14 @@ module _ (s p m : List ℕ) (o : Offer) (h : (read_of s).refusal ≡ 0) (bs : By
   next_sound : Sound (tick_over s p m o).core
   next_sound = (ticks_stay_in_range (said_by s) p m o (said_sound s bs h) bp bm f).core
 
+  pub next_written : (r : Result (Unit {0}) Unwritable) {k : Core} → k ≡ (tick_over s p m o).core → said_write r ≡ (write_of k s).refusal → IsOk r
+  next_written r e w = write_ok r (w ∙ ap (λ (k : Core). (write_of k s).refusal) e ∙ ap (λ w. w.refusal) (written (tick_over s p m o).core s next_sound.busy_le (long s h)))
+
   pub next_read : {s' : List ℕ} → s' ≡ (write_of (tick_over s p m o).core s).bytes → read_of s' ≡ record { refusal = 0; core = (tick_over s p m o).core }
   next_read e = ap read_of e ∙ reading_undoes_writing (tick_over s p m o).core s next_sound (long s h)
 
   pub next_into : {s' : List ℕ} (s₀ : List ℕ) → length s₀ ≡ 38 → s' ≡ (write_of (tick_over s p m o).core s).bytes → s' ≡ (write_of (tick_over s p m o).core s₀).bytes
   next_into s₀ l e = e ∙ into (tick_over s p m o).core s s₀ next_sound (long s h) l
-
--- ---- what ends a run
--- refusals, break and end
-abbrev kept : Answer → ℕ
-kept a = pick (refuses a) (number_of a) (pick (stops a) (number_of a) 24)
-
-kept_done : (d : Done) → ended_by (number_of (answer_of d)) ≡ kept (answer_of d)
-kept_done done.Ran = refl
-kept_done done.Sleep = refl
-kept_done done.Watchdog = refl
-kept_done done.Undefined = refl
-kept_done done.Break = refl
-
-ended_kept : (k : Core) (p m : List ℕ) (o : Offer) → ended_by (number_of (tick_of k p m o).answer) ≡ kept (tick_of k p m o).answer
-ended_kept k p m o =
-    every_tick decode_of (λ t. ended_by (number_of t.answer) ≡ kept t.answer) k p m o
-    (λ n g l. rw (lt-ltb n 16 (omega arith)))
-    (λ g l. refl)
-    (λ z v d l. refl)
-    (λ z d l. refl)
-    λ z d l r. kept_done (performed decode_of k p m).done
 
 -- ---- the ends of a run that begins at s₀ and stands, with n of its b ticks done, at s
 module _ (b n : ℕ) (s₀ p m₀ s m : List ℕ) (o : Offer) (l : length s₀ ≡ 38) (w : run_over b s₀ p m₀ o ≡ rest_over b n s p m o) (h : (read_of s).refusal ≡ 0) (bs : Bytes s) where
@@ -95,7 +90,7 @@ module _ (b n : ℕ) (s₀ p m₀ s m : List ℕ) (o : Offer) (l : length s₀ �
   First = b ≡ 1 → (said_by s₀).busy ≡ 0 → (said_by s ≡ said_by s₀) × (m ≡ m₀)
 
   -- the budget is spent in a stretch
-  pub ends_spent : (a : Over) → a.answer ≡ 18 → a.ticks ≡ n → b ≤ n → (b ≡ 1 → (said_by s₀).busy ≡ 0 → (tick_over s₀ p m₀ o).answer ≡ Ran) → Advances s₀ p m₀ o b a s m
+  pub ends_spent : (a : Last) → a.answer ≡ Ran → a.ticks ≡ n → b ≤ n → (b ≡ 1 → (said_by s₀).busy ≡ 0 → (tick_over s₀ p m₀ o).answer ≡ Ran) → Advances s₀ p m₀ o b a s m
   ends_spent a e c g q =
       let r = w ∙ unroll_spent b n (said_by s) p m o g in
       record {
@@ -103,29 +98,29 @@ module _ (b n : ℕ) (s₀ p m₀ s m : List ℕ) (o : Offer) (l : length s₀ �
         count = c ∙ sym (ap (λ x. x.count) r);
         snapshot = sym (ap (λ x. x.bytes) (writing_undoes_reading s s₀ bs h l)) ∙ sym (ap (λ x. (write_of x.core s₀).bytes) r);
         bytes = sym (ap (λ x. x.bytes) r);
-        one = λ x y. e ∙ sym (ap number_of (q x y));
+        one = λ x y. e ∙ sym (q x y);
       }
 
   module _ (bp : Bytes p) (bm : Bytes m) (f : Offered o) {s' m' : List ℕ} (i : s' ≡ (write_of t.core s).bytes) (j : m' ≡ t.bytes) where
     -- by a tick
-    ends_by : (a : Over) → a.answer ≡ number_of t.answer → First → (r : Run) → run_over b s₀ p m₀ o ≡ r → r.core ≡ t.core → r.bytes ≡ t.bytes → kept t.answer ≡ r.answer → a.ticks ≡ r.count → Advances s₀ p m₀ o b a s' m'
+    ends_by : (a : Last) → a.answer ≡ t.answer → First → (r : Run) → run_over b s₀ p m₀ o ≡ r → r.core ≡ t.core → r.bytes ≡ t.bytes → kept t.answer ≡ r.answer → a.ticks ≡ r.count → Advances s₀ p m₀ o b a s' m'
     ends_by a e q r z x y k c =
         record {
-          answer = ap ended_by e ∙ ended_kept (said_by s) p m o ∙ k ∙ sym (ap (λ x. x.answer) z);
+          answer = ap ended_by e ∙ ended_kept (said_by s) p m o ∙ ap ended_of (k ∙ sym (ap (λ x. x.answer) z));
           count = c ∙ sym (ap (λ x. x.count) z);
           snapshot = next_into s p m o h bs bp bm f s₀ l i ∙ ap (λ (k' : Core). (write_of k' s₀).bytes) (sym x) ∙ sym (ap (λ x. (write_of x.core s₀).bytes) z);
           bytes = j ∙ sym y ∙ sym (ap (λ x. x.bytes) z);
-          one = λ u v. e ∙ ap number_of (ap (λ (k' : Core). (tick_of k' p m o).answer) (q u v).0 ∙ ap (λ (x : List ℕ). (tick_of (said_by s₀) p x o).answer) (q u v).1);
+          one = λ u v. e ∙ (ap (λ (k' : Core). (tick_of k' p m o).answer) (q u v).0 ∙ ap (λ (x : List ℕ). (tick_of (said_by s₀) p x o).answer) (q u v).1);
         }
 
     module _ (g : n < b) where
-      pub ends_refused : (a : Over) → a.answer ≡ number_of t.answer → First → refuses t.answer ≡ true → a.ticks ≡ n → Advances s₀ p m₀ o b a s' m'
+      pub ends_refused : (a : Last) → a.answer ≡ t.answer → First → refuses t.answer ≡ true → a.ticks ≡ n → Advances s₀ p m₀ o b a s' m'
       ends_refused a e v z c = ends_by a e v (ended n t) (w ∙ unroll_refused b n (said_by s) p m o g z) refl refl (rw z) c
 
-      pub ends_stopped : (a : Over) → a.answer ≡ number_of t.answer → First → refuses t.answer ≡ false → stops t.answer ≡ true → a.ticks ≡ n + 1 → Advances s₀ p m₀ o b a s' m'
+      pub ends_stopped : (a : Last) → a.answer ≡ t.answer → First → refuses t.answer ≡ false → stops t.answer ≡ true → a.ticks ≡ n + 1 → Advances s₀ p m₀ o b a s' m'
       ends_stopped a e v z y c = ends_by a e v (ended (n + 1) t) (w ∙ unroll_stopped b n (said_by s) p m o g z y) refl refl (rw (z, y)) c
 
-      pub ends_last : (a : Over) → a.answer ≡ number_of t.answer → First → refuses t.answer ≡ false → stops t.answer ≡ false → n + 1 ≡ b → a.ticks ≡ b → Advances s₀ p m₀ o b a s' m'
+      pub ends_last : (a : Last) → a.answer ≡ t.answer → First → refuses t.answer ≡ false → stops t.answer ≡ false → n + 1 ≡ b → a.ticks ≡ b → Advances s₀ p m₀ o b a s' m'
       ends_last a e v z y q c =
           ends_by a e v (record { answer = 24; count = n + 1; core = t.core; bytes = t.bytes })
           (w ∙ unroll_on b n (said_by s) p m o g z y ∙ unroll_spent b (n + 1) t.core p t.bytes o (omega arith)) refl refl (rw (z, y)) (c ∙ sym q)
@@ -136,3 +131,80 @@ module _ (b n : ℕ) (s₀ p m₀ s m : List ℕ) (o : Offer) (l : length s₀ �
           w ∙ unroll_on b n (said_by s) p m o g z y
           ∙ ap (λ (k : Core). after (n + 1) (run_of (b - (n + 1)) k p t.bytes o)) (sym (ap (λ r. r.core) (next_read s p m o h bs bp bm f i)))
           ∙ ap (λ (x : List ℕ). rest_over b (n + 1) s' p x o) (sym j)
+
+-- ---- a turn
+-- the run of b ticks from s₀ stands, with n of them done, at s
+pub record Standing (b n : ℕ) (s₀ p m₀ s m : List ℕ) (o : Offer) : Type 0 where
+  pub under : n < b
+  pub read : (read_of s).refusal ≡ 0
+  pub run : run_over b s₀ p m₀ o ≡ rest_over b n s p m o
+  pub began : n ≡ 0 → (said_by s ≡ said_by s₀) × (m ≡ m₀)
+
+-- the part of a program from its first byte
+all : (p : List ℕ) → take (length p - 0) p ≡ p
+all p = rw sub-zero (take_all (length p) p (omega arith))
+
+-- a stretch from s₁ to s
+module _ {b at done : ℕ} {s₀ p m₀ s₁ m₁ s m : List ℕ} {o : Offer} {on : Bool} (h : (read_of s₀).refusal ≡ 0) (i : Standing b at s₀ p m₀ s₁ m₁ o)
+    (e : on ≡ is_some o) (c : Stretches s₁ (take (length p - 0) p) m₁ on at b done s m) (bs : Bytes s) where
+  went : Stretches s₁ p m₁ on at b done s m
+  went = subst (λ (x : List ℕ). Stretches s₁ x m₁ on at b done s m) (all p) c
+
+  stands : run_over b s₀ p m₀ o ≡ rest_over b done s p m o
+  stands = i.run ∙ went.rest o (sym e)
+
+  -- a run of one tick: the stretch did nothing, or that tick
+  first : b ≡ 1 → (said_by s₀).busy ≡ 0 → ((done ≡ 0) × ((said_by s ≡ said_by s₀) × (m ≡ m₀))) ⊎ ((0 < done) × ((tick_over s₀ p m₀ o).answer ≡ Ran))
+  first z f =
+      let none : at ≡ 0 = omega (arith, i.under, z) in
+      let began = i.began none in
+      elim (went.first o (sym e) (ap (λ (k : Core). k.busy) began.0 ∙ f)) [
+        | inl u ↦ inl (u.0 ∙ none, (u.1.0 ∙ began.0, u.1.1 ∙ began.1))
+        | inr u ↦ inr (omega (arith, u.0), ap (λ (k : Core). (tick_of k p m₀ o).answer) (sym began.0) ∙ ap (λ (x : List ℕ). (tick_of (said_by s₁) p x o).answer) (sym began.1) ∙ u.1)
+      ]
+
+  first_short : done < b → b ≡ 1 → (said_by s₀).busy ≡ 0 → (said_by s ≡ said_by s₀) × (m ≡ m₀)
+  first_short n z f = elim (first z f) [ inl u ↦ u.1 | inr u ↦ absurd (omega (arith, n, z, u.0)) ]
+
+  pub turn_spent : done ≡ b → Advances s₀ p m₀ o b (record { answer = Ran; ticks = b }) s m
+  turn_spent n =
+      ends_spent b done s₀ p m₀ s m o (long s₀ h) stands went.read bs (record { answer = Ran; ticks = b }) refl (sym n) (omega (arith, n))
+      λ z f. elim (first z f) [ inl u ↦ absurd (omega (arith, n, z, u.0)) | inr u ↦ u.1 ]
+
+  -- and a whole tick from s to s'
+  module _ (bp : Bytes p) (bm : Bytes m) (f : Offered o) {a : Answer} {s' m' : List ℕ} (d : TickedOver s (take (length p - 0) p) m o a s' m') (n : done ≡ b → ⊥) where
+    ticked : TickedOver s p m o a s' m'
+    ticked = subst (λ (x : List ℕ). TickedOver s x m o a s' m') (all p) d
+
+    near : done < b
+    near = omega (arith, went.bounded, n)
+
+    -- a test of the tick's answer, by that of the code's
+    by : (test : Answer → Bool) {t : Bool} → test a ≡ t → test (tick_over s p m o).answer ≡ t
+    by test z = ap test (sym ticked.answer) ∙ z
+
+    pub turn_refused : refuses a ≡ true → Advances s₀ p m₀ o b (record { answer = a; ticks = done }) s' m'
+    turn_refused x =
+        ends_refused b done s₀ p m₀ s m o (long s₀ h) stands went.read bs bp bm f ticked.snapshot ticked.bytes near (record { answer = a; ticks = done }) ticked.answer
+        (first_short near) (by refuses x) refl
+
+    module _ (x : refuses a ≡ false) where
+      pub turn_stopped : stops a ≡ true → Advances s₀ p m₀ o b (record { answer = a; ticks = done + 1 }) s' m'
+      turn_stopped y =
+          ends_stopped b done s₀ p m₀ s m o (long s₀ h) stands went.read bs bp bm f ticked.snapshot ticked.bytes near (record { answer = a; ticks = done + 1 }) ticked.answer
+          (first_short near) (by refuses x) (by stops y) refl
+
+      module _ (y : stops a ≡ false) where
+        pub turn_last : done + 1 ≡ b → Advances s₀ p m₀ o b (record { answer = a; ticks = b }) s' m'
+        turn_last l =
+            ends_last b done s₀ p m₀ s m o (long s₀ h) stands went.read bs bp bm f ticked.snapshot ticked.bytes near (record { answer = a; ticks = b }) ticked.answer
+            (first_short near) (by refuses x) (by stops y) l refl
+
+        pub turn_on : (done + 1 ≡ b → ⊥) → Standing b (done + 1) s₀ p m₀ s' m' o
+        turn_on l =
+            record {
+              under = omega (arith, near, l);
+              read = ap (λ r. r.refusal) (next_read s p m o went.read bs bp bm f ticked.snapshot);
+              run = goes_on b done s₀ p m₀ s m o (long s₀ h) stands went.read bs bp bm f ticked.snapshot ticked.bytes near (by refuses x) (by stops y);
+              began = λ z. absurd (omega (arith, z));
+            }

@@ -1,20 +1,18 @@
 -- A stretch of a run over lent registers. b is a budget, at a tick counted from the start of the run, k a core, which waits no longer but where its busy is said, p a program, m the bytes of data,
 -- o an offer; rs are the bytes of lent registers, g is what the code hands back.
-use Rattle.std.specs.Prelude.{◌≡◌, ℕ, ◌+◌, ◌-◌, ◌<◌, ◌≤◌, Bool, true, false, ◌⊎◌, List, nat_lt}
+use Rattle.std.specs.Prelude.{◌≡◌, ℕ, ◌+◌, ◌-◌, ◌<◌, ◌≤◌, Bool, ◌⊎◌, List, nat_lt, is_some}
 use Rattle.basis.specs.Pick.{pick}
 use Rattle.cores.specs.declared.Core.{Core}
 use Rattle.cores.specs.State.{with_busy}
 use Rattle.tick.specs.Tick.{gives, tick_of}
 use Rattle.tick.specs.Offer.{Offer}
-use Rattle.std.specs.Prelude.{Some, None}
 use Rattle.tick.specs.declared.Answer.TheVariants.{Ran}
 use Rattle.effects.specs.Parts.{stood, cored}
 use Rattle.run.specs.Run.{Run, after, run_of}
 use Rattle.run.specs.declared.go.Gone.{Gone}
 
 abbrev pub offers : Offer → Bool
-offers (Some v) = true
-offers None = false
+offers o = is_some o
 
 -- what a run of b ticks gives, where k waits no longer at the tick `at`; where the budget ends before, k still waits
 abbrev pub rest_of : ℕ → ℕ → Core → List ℕ → List ℕ → Offer → Run

@@ -1,14 +1,17 @@
 -- Runs over a snapshot. s are the bytes of a snapshot, p is a program, m the bytes of data, o an offer, b a budget; s' and m' are what the code leaves of s and m.
-use Rattle.std.specs.Prelude.{◌≡◌, ℕ, ◌-◌, ◌<◌, ◌≤◌, Bool, ◌&&◌, ◌⊎◌, List, ◌==◌, nat_le, nat_lt}
+use Rattle.std.specs.Prelude.{◌≡◌, ℕ, ◌-◌, ◌<◌, ◌≤◌, Bool, ◌&&◌, ◌⊎◌, List, Result, Ok, Err, ◌==◌, nat_le}
 use Rattle.basis.specs.Pick.{pick}
 use Rattle.cores.specs.declared.Core.{Core}
 use Rattle.tick.specs.Tick.{Tick, number_of, tick_of}
 use Rattle.tick.specs.Offer.{Offer}
 use Rattle.tick.specs.declared.Answer.{Answer}
 use Rattle.tick.specs.declared.Answer.TheVariants.{Ran}
-use Rattle.snapshot.specs.Snapshot.{read_of, write_of}
-use Rattle.run.specs.Run.{Run, after, run_of}
+use Rattle.snapshot.specs.Snapshot.{read_of, write_of, unreadable_number}
+use Rattle.snapshot.specs.declared.Unreadable.{Unreadable}
+use Rattle.snapshot.specs.declared.Unreadable.TheVariants.{Length, Busy, Spare}
+use Rattle.run.specs.Run.{Run, after, run_of, ended_number, ended_of, ended_by}
 use Rattle.run.specs.Lent.{offers}
+use Rattle.run.specs.declared.over.Last.{Last}
 use Rattle.run.specs.declared.over.Over.{Over}
 
 -- the core that the bytes say, its tick and its run
@@ -36,22 +39,25 @@ pub record Stretches (s p m : List ℕ) (on : Bool) (at b done : ℕ) (s' m' : L
   pub rest : (o : Offer) → offers o ≡ on → rest_over b at s p m o ≡ rest_over b done s' p m' o
   pub first : (o : Offer) → offers o ≡ on → (said_by s).busy ≡ 0 → ((done ≡ at) × ((said_by s' ≡ said_by s) × (m' ≡ m))) ⊎ ((at < done) × ((tick_over s p m o).answer ≡ Ran))
 
--- a run's answer by its last tick's: "24, 22, 23 or that refusal"
-abbrev pub ended_by : ℕ → ℕ
-ended_by n = pick (nat_lt n 16) n (pick (nat_lt n 22) 24 n)
-
 abbrev pub run_over : ℕ → List ℕ → List ℕ → List ℕ → Offer → Run
 run_over b s p m o = run_of b (said_by s) p m o
 
--- a run, with the answer's number of its last tick
-pub record Advances (s p m : List ℕ) (o : Offer) (b : ℕ) (a : Over) (s' m' : List ℕ) : Type 0 where
-  pub answer : ended_by a.answer ≡ (run_over b s p m o).answer
+-- a run, with the answer of its last tick
+pub record Advances (s p m : List ℕ) (o : Offer) (b : ℕ) (a : Last) (s' m' : List ℕ) : Type 0 where
+  pub answer : ended_by a.answer ≡ ended_of (run_over b s p m o).answer
   pub count : a.ticks ≡ (run_over b s p m o).count
   pub snapshot : s' ≡ (write_of (run_over b s p m o).core s).bytes
   pub bytes : m' ≡ (run_over b s p m o).bytes
-  pub one : b ≡ 1 → (said_by s).busy ≡ 0 → a.answer ≡ number_of (tick_over s p m o).answer
+  pub one : b ≡ 1 → (said_by s).busy ≡ 0 → a.answer ≡ (tick_over s p m o).answer
 
 -- ---- the calls: checks 7, 8 and 9 first, and "a refused call changes no core, no byte of data"
+-- the check of a number, and x where none refuses
+abbrev pub unreadable_of : ℕ → Unreadable
+unreadable_of n = pick (n == 7) Length (pick (n == 8) Busy Spare)
+
+abbrev pub passed : {A : Type 0} → ℕ → A → Result A Unreadable
+passed n x = pick (n == 0) (Ok x) (Err (unreadable_of n))
+
 -- a tick: "The next core is written into the same snapshot; the answer's number is returned."
 pub record TickIn : Type 0 where
   pub number : ℕ
@@ -63,6 +69,11 @@ tick_in s p m o =
     let t = tick_over s p m o in
     pick ((read_of s).refusal == 0) (record { number = number_of t.answer; snapshot = (write_of t.core s).bytes; bytes = t.bytes })
     (record { number = (read_of s).refusal; snapshot = s; bytes = m })
+
+-- the number of what the code hands back
+abbrev pub number_in : Result Answer Unreadable → ℕ
+number_in (Ok a) = number_of a
+number_in (Err e) = unreadable_number e
 
 pub record TicksIn (t : TickIn) (n : ℕ) (s m : List ℕ) : Type 0 where
   pub number : n ≡ t.number
@@ -82,9 +93,22 @@ run_in s p m o b =
     pick ((read_of s).refusal == 0) (record { answer = r.answer; count = r.count; snapshot = (write_of r.core s).bytes; bytes = r.bytes })
     (record { answer = (read_of s).refusal; count = 0; snapshot = s; bytes = m })
 
-pub record RunsIn (r : RunIn) (a : Over) (s m : List ℕ) : Type 0 where
-  pub answer : a.answer ≡ r.answer
-  pub count : a.ticks ≡ r.count
+-- a run as the code hands it back
+abbrev pub over_of : Run → Over
+over_of r = record { ended = ended_of r.answer; ticks = r.count }
+
+-- and the number and the count of that, or of a check
+abbrev pub answer_in : Result Over Unreadable → ℕ
+answer_in (Ok a) = ended_number a.ended
+answer_in (Err e) = unreadable_number e
+
+abbrev pub count_in : Result Over Unreadable → ℕ
+count_in (Ok a) = a.ticks
+count_in (Err e) = 0
+
+pub record RunsIn (r : RunIn) (a n : ℕ) (s m : List ℕ) : Type 0 where
+  pub answer : a ≡ r.answer
+  pub count : n ≡ r.count
   pub snapshot : s ≡ r.snapshot
   pub bytes : m ≡ r.bytes
 

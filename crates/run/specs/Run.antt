@@ -1,12 +1,17 @@
 -- 01, 'Runs': "A run takes one held offer and a budget. It stops at the budget, break, end or a refusal, answers 24, 22, 23 or that refusal, and reports
 -- the number of ticks done; break and end count, a refused tick doesn't. Core and data stand as after the last done tick."
 -- k is a core, p a program, m the bytes of data, o an offer, t what a tick gives, r what a run gives.
-use Rattle.std.specs.Prelude.{◌≡◌, ℕ, zero, suc, ◌+◌, ◌<◌, ◌≤◌, Bool, true, false, not, ◌&&◌, ◌⊎◌, List, ◌≢◌}
+use Rattle.std.specs.Prelude.{◌≡◌, ℕ, zero, suc, ◌+◌, ◌<◌, ◌≤◌, Bool, true, false, not, ◌&&◌, ◌⊎◌, List, ◌≢◌, ◌==◌}
+use Rattle.basis.specs.Pick.{pick}
 use Rattle.instruction.specs.Decode.{decode_of}
 use Rattle.instruction.specs.declared.Instruction.{Instruction}
 use Rattle.cores.specs.declared.Core.{Core}
 use Rattle.tick.specs.Tick.{Tick, number_of, refuses, stops, ticked, tick_of}
 use Rattle.tick.specs.Offer.{Offer}
+use Rattle.tick.specs.declared.Answer.{Answer}
+use Rattle.tick.specs.declared.Answer.TheVariants as answer
+use Rattle.run.specs.declared.Ended.{Ended}
+use Rattle.run.specs.declared.Ended.TheVariants.{Budget, Break, End, Refused}
 use Rattle.run.specs.declared.Ran as code
 
 -- what a run gives: an answer's number, the count of ticks done, a core and the bytes of data
@@ -16,9 +21,32 @@ pub record Run : Type 0 where
   pub core : Core
   pub bytes : List ℕ
 
+-- "answers 24, 22, 23 or that refusal": the number of each end
+abbrev pub ended_number : Ended → ℕ
+ended_number Budget = 24
+ended_number Break = 22
+ended_number End = 23
+ended_number (Refused n) = n
+
+-- and the end that the code says by a number
+abbrev pub ended_of : ℕ → Ended
+ended_of n = pick (n == 24) Budget (pick (n == 22) Break (pick (n == 23) End (Refused n)))
+
+-- by a run's last tick
+abbrev pub ended_by : Answer → Ended
+ended_by (answer.Refused n) = Refused n
+ended_by answer.Waited = Budget
+ended_by answer.Entered = Budget
+ended_by answer.Ran = Budget
+ended_by answer.Sleep = Budget
+ended_by answer.Watchdog = Budget
+ended_by answer.Undefined = Budget
+ended_by answer.Break = Break
+ended_by answer.End = End
+
 -- what the code hands back, and the lent data, are those
 pub record Runs (r : Run) (back : code.Ran) (m : List ℕ) : Type 0 where
-  pub answer : back.answer ≡ r.answer
+  pub answer : back.ended ≡ ended_of r.answer
   pub count : back.ticks ≡ r.count
   pub core : back.core ≡ r.core
   pub bytes : m ≡ r.bytes
@@ -49,6 +77,10 @@ module _ (decode : ℕ → ℕ → Instruction) where
 -- the run, by 01's decode
 abbrev pub run_of : ℕ → Core → List ℕ → List ℕ → Offer → Run
 run_of budget k p m o = ran decode_of budget k p m o
+
+-- ---- the theorem, proved in proofs/Ends.antt: the code's end has the number that it was said by
+abbrev pub EndsHaveTheirNumbers : Type 0
+EndsHaveTheirNumbers = (n : ℕ) → ended_number (ended_of n) ≡ n
 
 -- ---- the theorem, proved in proofs/Larger.antt
 -- "A run that answered anything but 24 answers the same under any larger budget": with the same count, core and data

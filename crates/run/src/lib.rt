@@ -2,9 +2,10 @@
 #![tactic(auto)]
 
 ghost use Rattle.std.specs.Prelude.{◌≡◌};
-ghost use Rattle.run.specs.Run.{run_of, Runs};
+ghost use Rattle.run.specs.Run.{ended_number, ended_by, run_of, Runs};
 
 use cores::Core;
+use tick::Answer;
 
 mod go;
 mod over;
@@ -13,40 +14,74 @@ mod settling;
 
 pub use over::{Over, run_in, tick_in};
 
-// The answer is 24, 22, 23 or the refusal, by 01's numbers; `ticks` counts the ticks done.
+// How a run ended.
+#[derive(Clone, Copy, Debug, PartialEq, Eq)]
+pub enum Ended {
+    Budget,
+    Break,
+    End,
+    Refused(u8),
+}
+
+// By 01's numbers.
+impl From<Ended> for u8 {
+    ghost from_gives = { λ ended n. n ≡ ended_number ended };
+
+    fn from(ended: Ended) -> u8 {
+        match ended {
+            Ended::Budget => 24,
+            Ended::Break => 22,
+            Ended::End => 23,
+            Ended::Refused(number) => number,
+        }
+    }
+}
+
+// By the last tick of a run.
+impl From<Answer> for Ended {
+    ghost from_gives = { λ answer ended. ended ≡ ended_by answer };
+
+    fn from(answer: Answer) -> Ended {
+        match answer {
+            Answer::Refused(number) => Ended::Refused(number),
+            Answer::Break => Ended::Break,
+            Answer::End => Ended::End,
+            _ => Ended::Budget,
+        }
+    }
+}
+
+// `ticks` counts the ticks done.
 #[derive(Clone, Copy)]
 pub struct Ran {
-    pub answer: u8,
+    pub ended: Ended,
     pub ticks: u32,
     pub core: Core,
 }
-
-const BUDGET: u8 = 24;
-
-const TOO_BUSY: u8 = 5;
 
 pub fn run(core: Core, program: &[u8], data: &mut [u8], offer: Option<u16>, budget: u32) -> Ran
     ensures { Runs (run_of budget core program.now «data».old offer) result «data».new }
 {
     if budget == 0 {
-        return ended(BUDGET, 0, core);
-    }
-    if core.busy > 4 {
-        return ended(TOO_BUSY, 0, core);
+        return Ran {
+            ended: Ended::Budget,
+            ticks: 0,
+            core,
+        };
     }
     let mut bytes = [0u8; 38];
-    snapshot::write(core, &mut bytes);
-    let over = run_in(&mut bytes, program, data, offer, budget);
-    let read = snapshot::read(&bytes);
-    ended(over.answer, over.ticks, read.core)
-}
-
-fn ended(answer: u8, ticks: u32, core: Core) -> Ran
-    ensures { result ≡ record { answer = answer; ticks = ticks; core = core } }
-{
+    if let Err(refusal) = snapshot::write(core, &mut bytes) {
+        return Ran {
+            ended: Ended::Refused(refusal.into()),
+            ticks: 0,
+            core,
+        };
+    }
+    let over = run_in(&mut bytes, program, data, offer, budget).unwrap();
+    let core = snapshot::read(&bytes).unwrap();
     Ran {
-        answer,
-        ticks,
+        ended: over.ended,
+        ticks: over.ticks,
         core,
     }
 }

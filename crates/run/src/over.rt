@@ -1,43 +1,38 @@
 // Runs over a snapshot, changed where it lies: `go` takes the plain instructions, and what it leaves is a whole tick.
 ghost use Rattle.std.specs.Prelude.{◌≡◌, ◌<◌};
+ghost use Rattle.tick.specs.Tick.{number_of};
 ghost use Rattle.snapshot.specs.Snapshot.{read_of};
-ghost use Rattle.run.specs.Lent.{offers};
-ghost use Rattle.run.specs.Over.{ended_by, TickedOver, Stretches, Advances, tick_in, TicksIn, run_in, RunsIn};
+ghost use Rattle.run.specs.Over.{tick_over, TickedOver, Stretches, Advances, passed, number_in, tick_in, TicksIn, over_of, answer_in, count_in, run_over, run_in, RunsIn};
 
+use crate::Ended;
 use crate::go::go;
 use crate::settling::{flags, leave, word_at};
+use snapshot::Unreadable;
 use tick::Answer;
 
-// The number of an answer, and the ticks done.
+// How a run ended, and the ticks done.
 #[derive(Clone, Copy)]
 pub struct Over {
-    pub answer: u8,
+    pub ended: Ended,
     pub ticks: u32,
 }
 
-const WAITED: u8 = 16;
-
-const RAN: u8 = 18;
-
-const BUDGET: u8 = 24;
-
-fn offered(offer: Option<u16>) -> bool
-    ensures { result ≡ offers offer }
-{
-    match offer {
-        Some(_) => true,
-        None => false,
-    }
+// The answer of a run's last tick, and the ticks done.
+#[derive(Clone, Copy)]
+struct Last {
+    answer: Answer,
+    ticks: u32,
 }
 
 // A whole tick, by the two operations, of which `ready` and `effect` are the short form.
 fn whole(snapshot: &mut [u8], program: &[u8], data: &mut [u8], offer: Option<u16>) -> Answer
+    requires { (read_of snapshot.old).refusal ≡ 0 }
     ensures { TickedOver snapshot.old program.now «data».old offer result snapshot.new «data».new }
 {
-    let read = snapshot::read(snapshot);
-    let plan = tick::decide(read.core, program, data, offer);
-    let next = tick::carry_out(read.core, plan, program, data);
-    snapshot::write(next, snapshot);
+    let core = snapshot::read(snapshot).unwrap();
+    let plan = tick::decide(core, program, data, offer);
+    let next = tick::carry_out(core, plan, program, data);
+    snapshot::write(next, snapshot).unwrap();
     plan.answer()
 }
 
@@ -82,101 +77,109 @@ fn stretch(
 }
 
 // A run of at least one tick, where the bytes are read.
-fn advance(snapshot: &mut [u8], program0: &[u8], data: &mut [u8], offer: Option<u16>, budget: u32) -> Over
+fn advance(
+    snapshot: &mut [u8],
+    program0: &[u8],
+    data: &mut [u8],
+    offer: Option<u16>,
+    budget: u32,
+) -> Last
     requires { ((read_of snapshot.old).refusal ≡ 0) × (0 < budget) }
     ensures { Advances snapshot.old program0.now «data».old offer budget result snapshot.new «data».new }
 {
     // a slice of its own stays in registers
     let program = &program0[0..];
-    let on = offered(offer);
+    let on = offer.is_some();
     let mut at: u32 = 0;
     loop {
         let done = stretch(snapshot, program, data, on, at, budget);
         if done == budget {
-            return told(RAN, budget);
+            return Last {
+                answer: Answer::Ran,
+                ticks: budget,
+            };
         }
         let answer = whole(snapshot, program, data, offer);
-        let number = tick::number(answer);
         let next = done + 1;
         if tick::refuses(answer) {
-            return told(number, done);
+            return Last {
+                answer,
+                ticks: done,
+            };
         }
         if tick::stops(answer) {
-            return told(number, next);
+            return Last {
+                answer,
+                ticks: next,
+            };
         }
         if next == budget {
-            return told(number, budget);
+            return Last {
+                answer,
+                ticks: budget,
+            };
         }
         at = next;
     }
 }
 
-fn told(answer: u8, ticks: u32) -> Over
-    ensures { result ≡ record { answer = answer; ticks = ticks } }
-{
-    Over { answer, ticks }
-}
-
-// A run's answer, by its last tick's.
-fn ended_by(answer: u8) -> u8
-    ensures { result ≡ ended_by answer }
-{
-    if answer < 16 {
-        return answer;
-    }
-    if answer < 22 { BUDGET } else { answer }
-}
-
-// Checks 7, 8 and 9; 0 where they are passed.
-fn refused(snapshot: &[u8]) -> u8
-    ensures { result ≡ (read_of snapshot.now).refusal }
+// The checks of `snapshot::read`, in its order, and no core.
+fn check(snapshot: &[u8]) -> Result<(), Unreadable>
+    ensures { result ≡ passed (read_of snapshot.now).refusal tt }
 {
     if snapshot.len() != 38 {
-        return 7;
+        return Err(Unreadable::Length);
     }
     let last = snapshot[37];
     if last / 32 > 4 {
-        return 8;
+        return Err(Unreadable::Busy);
     }
     if last % 4 != 0 {
-        return 9;
+        return Err(Unreadable::Spare);
     }
-    0
+    Ok(())
 }
 
-// A tick: the answer's number, or a check's. A refused call changes no byte.
-pub fn tick_in(snapshot: &mut [u8], program: &[u8], data: &mut [u8], offer: Option<u16>) -> u8
-    ensures { TicksIn (tick_in snapshot.old program.now «data».old offer) result snapshot.new «data».new }
+// A tick. A refused call changes no byte.
+pub fn tick_in(
+    snapshot: &mut [u8],
+    program: &[u8],
+    data: &mut [u8],
+    offer: Option<u16>,
+) -> Result<Answer, Unreadable>
+    ensures handed_back { result ≡ passed (read_of snapshot.old).refusal (tick_over snapshot.old program.now «data».old offer).answer }
+    ensures left { TicksIn (tick_in snapshot.old program.now «data».old offer) (number_in result) snapshot.new «data».new }
 {
-    let refusal = refused(snapshot);
-    if refusal != 0 {
-        return refusal;
-    }
+    check(snapshot)?;
     let last = snapshot[37];
     if last >= 32 {
         snapshot[37] = last - 32;
-        return WAITED;
+        return Ok(Answer::Waited);
     }
-    advance(snapshot, program, data, offer, 1).answer
+    Ok(advance(snapshot, program, data, offer, 1).answer)
 }
 
-// A run: its answer and its count, or a check's number, which no run answers, and 0.
+// A run. A refused call changes no byte.
 pub fn run_in(
     snapshot: &mut [u8],
     program: &[u8],
     data: &mut [u8],
     offer: Option<u16>,
     budget: u32,
-) -> Over
-    ensures { RunsIn (run_in snapshot.old program.now «data».old offer budget) result snapshot.new «data».new }
+) -> Result<Over, Unreadable>
+    ensures handed_back { result ≡ passed (read_of snapshot.old).refusal (over_of (run_over budget snapshot.old program.now «data».old offer)) }
+    ensures left { RunsIn (run_in snapshot.old program.now «data».old offer budget) (answer_in result) (count_in result) snapshot.new «data».new }
 {
-    let refusal = refused(snapshot);
-    if refusal != 0 {
-        return told(refusal, 0);
-    }
+    check(snapshot)?;
     if budget == 0 {
-        return told(BUDGET, 0);
+        return Ok(Over {
+            ended: Ended::Budget,
+            ticks: 0,
+        });
     }
-    let ran = advance(snapshot, program, data, offer, budget);
-    told(ended_by(ran.answer), ran.ticks)
+    let last = advance(snapshot, program, data, offer, budget);
+    Ok(Over {
+        ended: last.answer.into(),
+        ticks: last.ticks,
+    })
 }
