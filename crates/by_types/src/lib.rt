@@ -11,7 +11,7 @@ use cores::Core;
 pub fn slice(bytes: &[u8])
     ensures { Bytes bytes.now }
 {
-    if bytes.len() > 0 {
+    if !bytes.is_empty() {
         let _ = bytes[0];
     }
 }
@@ -20,6 +20,5 @@ pub fn slice(bytes: &[u8])
 pub fn core(core: Core)
     ensures { core.busy ≤ 4 → Sound core }
 {
-    let regs = core.regs;
-    slice(&regs);
+    slice(&core.regs);
 }

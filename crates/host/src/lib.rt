@@ -2,9 +2,7 @@
 #![tactic(auto)]
 
 ghost use Rattle.std.specs.Prelude.{◌≡◌};
-ghost use Rattle.run.specs.Over.{of_check};
 ghost use Rattle.host.specs.Host.{offer_of, avr_tick_of, avr_run_of, Tells, TellsTicks};
-
 
 mod hex_files;
 mod schedules;
@@ -15,11 +13,7 @@ pub use schedules::avr_run_schedule;
 fn offer_of(offer: u32) -> Option<u16>
     ensures { result ≡ offer_of offer }
 {
-    if offer < 65536 {
-        Some(offer as u16)
-    } else {
-        None
-    }
+    u16::try_from(offer).ok()
 }
 
 // One tick: checks 10, 7, 8, 9, then the tick. A refused call changes no byte.
@@ -29,7 +23,10 @@ pub fn avr_tick(snapshot: &mut [u8], program: &[u8], data: &mut [u8], offer: u32
     if offer > 65536 {
         return 10;
     }
-    run::tick_in(snapshot, program, data, offer_of(offer)) as u32
+    match run::tick_in(snapshot, program, data, offer_of(offer)) {
+        Ok(answer) => tick::number(answer) as u32,
+        Err(refusal) => u8::from(refusal) as u32,
+    }
 }
 
 // What `avr_tick` would return, by the same checks. Every slice is only read.
@@ -39,11 +36,10 @@ pub fn avr_foretell(snapshot: &[u8], program: &[u8], data: &[u8], offer: u32) ->
     if offer > 65536 {
         return 10;
     }
-    let read = snapshot::read(snapshot);
-    if read.refusal != 0 {
-        return read.refusal as u32;
+    match snapshot::read(snapshot) {
+        Ok(core) => tick::number(tick::foretell(core, program, data, offer_of(offer))) as u32,
+        Err(refusal) => u8::from(refusal) as u32,
     }
-    tick::number(tick::foretell(read.core, program, data, offer_of(offer))) as u32
 }
 
 // A run: the same checks, then the run, its count into `ticks`. A call refused by a check leaves `ticks` as it was.
@@ -60,17 +56,11 @@ pub fn avr_run(
     if offer > 65536 {
         return 10;
     }
-    let over = run::run_in(snapshot, program, data, offer_of(offer), budget);
-    if of_check(over.answer) {
-        return over.answer as u32;
+    match run::run_in(snapshot, program, data, offer_of(offer), budget) {
+        Ok(over) => {
+            *ticks = over.ticks;
+            u8::from(over.ended) as u32
+        }
+        Err(refusal) => u8::from(refusal) as u32,
     }
-    *ticks = over.ticks;
-    over.answer as u32
-}
-
-// 7, 8 or 9, which no run answers.
-fn of_check(answer: u8) -> bool
-    ensures { result ≡ of_check answer }
-{
-    (answer >= 7) & (answer <= 9)
 }

@@ -1,6 +1,6 @@
 // A run by an interrupt schedule, for C.
 ghost use Rattle.std.specs.Prelude.{◌≡◌};
-ghost use Rattle.schedule.specs.Schedule.{schedule_in, of_check};
+ghost use Rattle.schedule.specs.Schedule.{schedule_in};
 ghost use Rattle.host.specs.Host.{TellsTicks};
 ghost use Rattle.host.specs.Schedules.{avr_run_schedule_of};
 
@@ -18,17 +18,11 @@ pub fn avr_run_schedule(
     ensures tells_ticks { TellsTicks (avr_run_schedule_of snapshot.old program.now «data».old list.now budget entered.old ticks.old) result snapshot.new «data».new ticks.new }
     ensures entered_after { entered.new ≡ (schedule_in snapshot.old program.now «data».old list.now budget entered.old).numbers }
 {
-    let over = schedule::run_in(snapshot, program, data, list, budget, entered);
-    if of_check(over.answer) {
-        return over.answer as u32;
+    match schedule::run_in(snapshot, program, data, list, budget, entered) {
+        Ok(over) => {
+            *ticks = over.ticks;
+            u8::from(over.ended) as u32
+        }
+        Err(refusal) => u8::from(refusal) as u32,
     }
-    *ticks = over.ticks;
-    over.answer as u32
-}
-
-// 7, 8, 9, or 30 and above, which no run answers.
-fn of_check(answer: u8) -> bool
-    ensures { result ≡ of_check answer }
-{
-    ((answer >= 7) & (answer <= 9)) | (answer >= 30)
 }

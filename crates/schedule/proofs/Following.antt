@@ -12,11 +12,11 @@ use borrow.Author.Tests.{eq-eqb, ne_eqb, eqb-true, eqb-false}
 use Rattle.basis.specs.Bytes.{Bytes}
 use Rattle.basis.proofs.Choice.{clash, test}
 use Rattle.snapshot.specs.Snapshot.{read_of}
-use Rattle.std.specs.Prelude.{None}
+use Rattle.std.specs.Prelude.{None, Result, Ok, Err}
 use Rattle.run.specs.Over.{run_in, RunsIn}
 use Rattle.run.specs.declared.over.Over.{Over}
 use Rattle.schedule.specs.Schedule.{Record, record_at, records_from, records_of, rising, Scheduled, stopped, scheduled, numbers_of}
-use Rattle.schedule.specs.Follow.{rest_from, said_run, Serves, Follows}
+use Rattle.schedule.specs.Follow.{Told, told, Plain, rest_from, said_run, Serves, Follows}
 use Rattle.schedule.proofs.Serving.{Quiet, ran_read, few, all_done, goes_on, ends_there}
 
 -- the numbers of the records entered before stand in front
@@ -85,58 +85,55 @@ module _ {s₀ p m₀ l : List ℕ} {from b : ℕ} {k s m e : List ℕ} {i done 
   rises_on : rising d.tick ds ≡ true
   rises_on = both (ltb z.last d.tick) (rising d.tick ds) (ap (λ (n : ℕ). rising z.last (records_from l i n)) (sym left) ∙ z.rises)
 
-  module _ (a : Over) {s' m' : List ℕ} (w : Serves s p m d done b a s' m') where
-    served : rest_from b from s₀ p m₀ (records_of l) ≡ behind z.before (rest_from b done s p m (d ∷ ds))
-    served = z.rest ∙ ap (λ (n : ℕ). behind z.before (rest_from b done s p m (records_from l i n))) left
+  zeros : e ≡ z.before ++ (0 ∷ (replicate (length l / 5 - suc i) 0 ++ k))
+  zeros = z.numbers ∙ ap (λ (n : ℕ). z.before ++ (replicate n 0 ++ k)) left
 
-    zeros : e ≡ z.before ++ (0 ∷ (replicate (length l / 5 - suc i) 0 ++ k))
-    zeros = z.numbers ∙ ap (λ (n : ℕ). z.before ++ (replicate n 0 ++ k)) left
+  served : rest_from b from s₀ p m₀ (records_of l) ≡ behind z.before (rest_from b done s p m (d ∷ ds))
+  served = z.rest ∙ ap (λ (n : ℕ). behind z.before (rest_from b done s p m (records_from l i n))) left
 
-    -- it was entered
-    pub stands_next : a.answer ≡ 17 → Bytes s' → Bytes m' → Stands s₀ p m₀ l from b k s' m' (set e i a.ticks) (i + 1) a.ticks
-    stands_next f bs bm =
-        let one : i + 1 ≡ suc i = omega arith in
-        let ns = z.before in
-        let t = a.ticks in
-        let rest : List ℕ = replicate (length l / 5 - suc i) 0 ++ k in
-        let put : set (ns ++ (0 ∷ rest)) i t ≡ ns ++ (t ∷ rest) = ap (λ (n : ℕ). set (ns ++ (0 ∷ rest)) n t) (sym z.many) ∙ set-append_seam ns 0 rest t in
-        record {
-          few = omega arith;
-          low = w.bounded;
-          read = w.read;
-          snapshot_bytes = bs;
-          data_bytes = bm;
-          last = d.tick;
-          rises = rw one rises_on;
-          before = ns ++ (t ∷ []);
-          many = rw length-append (omega (arith, z.many));
-          numbers = rw one (ap (λ (x : List ℕ). set x i t) zeros ∙ put ∙ sym (joined ns (t ∷ []) rest));
-          rest = rw one (served ∙ ap (behind ns) (w.rest ds rises_on ∙ rw (eq-eqb a.answer 17 f))
-              ∙ ap (λ (x : List ℕ). record { run = (rest_from b t s' p m' ds).run; entries = x }) (sym (joined ns (t ∷ []) (rest_from b t s' p m' ds).entries)));
-        }
+  -- it was entered
+  pub stands_next : (t : ℕ) {s' m' : List ℕ} → Serves s p m d done b (Ok t) s' m' → Bytes s' → Bytes m' → Stands s₀ p m₀ l from b k s' m' (set e i t) (i + 1) t
+  stands_next t {s'} {m'} w bs bm =
+      let one : i + 1 ≡ suc i = omega arith in
+      let ns = z.before in
+      let rest : List ℕ = replicate (length l / 5 - suc i) 0 ++ k in
+      let put : set (ns ++ (0 ∷ rest)) i t ≡ ns ++ (t ∷ rest) = ap (λ (n : ℕ). set (ns ++ (0 ∷ rest)) n t) (sym z.many) ∙ set-append_seam ns 0 rest t in
+      record {
+        few = omega arith;
+        low = w.bounded;
+        read = w.read;
+        snapshot_bytes = bs;
+        data_bytes = bm;
+        last = d.tick;
+        rises = rw one rises_on;
+        before = ns ++ (t ∷ []);
+        many = rw length-append (omega (arith, z.many));
+        numbers = rw one (ap (λ (x : List ℕ). set x i t) zeros ∙ put ∙ sym (joined ns (t ∷ []) rest));
+        rest = rw one (served ∙ ap (behind ns) (w.rest ds rises_on)
+            ∙ ap (λ (x : List ℕ). record { run = (rest_from b t s' p m' ds).run; entries = x }) (sym (joined ns (t ∷ []) (rest_from b t s' p m' ds).entries)));
+      }
 
-    -- the run ended before
-    pub follows_ended : (e₀ : List ℕ) → k ≡ drop (length l / 5) e₀ → (x : Over) → (a.answer ≡ 17 → ⊥) → x.answer ≡ a.answer → x.ticks ≡ a.ticks → Follows s₀ p m₀ l from b e₀ x s' m' e
-    follows_ended e₀ kept x f g h =
-        let ns = z.before in
-        let rest : List ℕ = replicate (length l / 5 - suc i) 0 in
-        let over : rest_from b done s p m (d ∷ ds) ≡ stopped (said_run a s' m') (d ∷ ds) = w.rest ds rises_on ∙ rw (ne_eqb a.answer 17 f) in
-        let whole : rest_from b from s₀ p m₀ (records_of l) ≡ behind ns (stopped (said_run a s' m') (d ∷ ds)) = served ∙ ap (behind ns) over in
-        let run : said_run x s' m' ≡ said_run a s' m' = cc (g, h) in
-        let entries : (rest_from b from s₀ p m₀ (records_of l)).entries ≡ ns ++ (0 ∷ rest) =
-        ap (λ y. y.entries) whole ∙ ap (λ (n : ℕ). let none : List ℕ = replicate n 0 in ns ++ (0 ∷ none)) (many_records l (suc i) (length l / 5 - suc i)) in
-        let long : length (ns ++ (0 ∷ rest)) ≡ length l / 5 = rw (length-append, length-replicate) (omega (arith, z.many)) in
-        let numbers : numbers_of (rest_from b from s₀ p m₀ (records_of l)).entries e₀ ≡ (ns ++ (0 ∷ rest)) ++ drop (length l / 5) e₀ =
-        ap (λ (y : List ℕ). numbers_of y e₀) entries ∙ ap (λ (n : ℕ). (ns ++ (0 ∷ rest)) ++ drop n e₀) long in
-        record {
-          read = w.read;
-          run = run ∙ sym (ap (λ y. y.run) whole);
-          numbers = zeros ∙ sym (joined ns (0 ∷ rest) k) ∙ ap (λ (y : List ℕ). (ns ++ (0 ∷ rest)) ++ y) kept ∙ sym numbers;
-        }
+  -- the run ended before
+  pub follows_ended : (x : Over) {s' m' : List ℕ} → Serves s p m d done b (Err x) s' m' → (e₀ : List ℕ) → k ≡ drop (length l / 5) e₀ → Follows s₀ p m₀ l from b e₀ x s' m' e
+  follows_ended x {s'} {m'} w e₀ kept =
+      let ns = z.before in
+      let rest : List ℕ = replicate (length l / 5 - suc i) 0 in
+      let whole : rest_from b from s₀ p m₀ (records_of l) ≡ behind ns (stopped (said_run (told x) s' m') (d ∷ ds)) = served ∙ ap (behind ns) (w.rest ds rises_on) in
+      let entries : (rest_from b from s₀ p m₀ (records_of l)).entries ≡ ns ++ (0 ∷ rest) =
+      ap (λ y. y.entries) whole ∙ ap (λ (n : ℕ). let none : List ℕ = replicate n 0 in ns ++ (0 ∷ none)) (many_records l (suc i) (length l / 5 - suc i)) in
+      let long : length (ns ++ (0 ∷ rest)) ≡ length l / 5 = rw (length-append, length-replicate) (omega (arith, z.many)) in
+      let numbers : numbers_of (rest_from b from s₀ p m₀ (records_of l)).entries e₀ ≡ (ns ++ (0 ∷ rest)) ++ drop (length l / 5) e₀ =
+      ap (λ (y : List ℕ). numbers_of y e₀) entries ∙ ap (λ (n : ℕ). (ns ++ (0 ∷ rest)) ++ drop n e₀) long in
+      record {
+        read = w.read;
+        plain = w.plain;
+        run = sym (ap (λ y. y.run) whole);
+        numbers = zeros ∙ sym (joined ns (0 ∷ rest) k) ∙ ap (λ (y : List ℕ). (ns ++ (0 ∷ rest)) ++ y) kept ∙ sym numbers;
+      }
 
 -- ---- no record is left, and what is left of the budget is run with no offer
 module _ {s₀ p m₀ l : List ℕ} {from b : ℕ} {k s m e : List ℕ} {i done : ℕ} (z : Stands s₀ p m₀ l from b k s m e i done) (end : length l / 5 ≤ i) (bp : Bytes p)
-    (a : Over) (s' m' : List ℕ) (w : RunsIn (run_in s p m None (b - done)) a s' m') where
+    (a : Told) (s' m' : List ℕ) (w : RunsIn (run_in s p m None (b - done)) a.answer a.ticks s' m') where
   abbrev quiet : Quiet
   quiet =
       record {
@@ -160,7 +157,10 @@ module _ {s₀ p m₀ l : List ℕ} {from b : ℕ} {k s m e : List ℕ} {i done 
   pub count_fits : done + a.ticks ≤ b
   count_fits = omega (arith, z.low, few quiet)
 
-  module _ (x : Over) (g : x.answer ≡ a.answer) (h : x.ticks ≡ done + a.ticks) where
+  module _ (y : Over) (plain : Plain y) (g : (told y).answer ≡ a.answer) (h : (told y).ticks ≡ done + a.ticks) where
+    abbrev x : Told
+    x = told y
+
     spent : a.answer ≡ 24 → rest_from b done s p m [] ≡ stopped (said_run x s' m') []
     unfolding scheduled
     spent f =
@@ -172,7 +172,7 @@ module _ {s₀ p m₀ l : List ℕ} {from b : ℕ} {k s m e : List ℕ} {i done 
         test (eqb a.answer 24) (λ f. spent (eqb-true a.answer 24 f))
         λ f. ends_there quiet b done [] fits (λ _ _ _. refl) x (eqb-false a.answer 24 f) g h
 
-    pub follows_last : (e₀ : List ℕ) → k ≡ drop (length l / 5) e₀ → Follows s₀ p m₀ l from b e₀ x s' m' e
+    pub follows_last : (e₀ : List ℕ) → k ≡ drop (length l / 5) e₀ → Follows s₀ p m₀ l from b e₀ y s' m' e
     follows_last e₀ kept =
         let ns = z.before in
         let none : length l / 5 - i ≡ 0 = omega arith in
@@ -183,6 +183,7 @@ module _ {s₀ p m₀ l : List ℕ} {from b : ℕ} {k s m e : List ℕ} {i done 
         ap (λ y. numbers_of y.entries e₀) whole ∙ ap (λ (n : ℕ). (ns ++ []) ++ drop n e₀) long in
         record {
           read = ap (λ y. y.refusal) (ran_read quiet);
+          plain = plain;
           run = sym (ap (λ y. y.run) whole);
           numbers = z.numbers ∙ ap (λ (n : ℕ). ns ++ (replicate n 0 ++ k)) none ∙ sym (joined ns [] k) ∙ ap (λ (y : List ℕ). (ns ++ []) ++ y) kept ∙ sym numbers;
         }

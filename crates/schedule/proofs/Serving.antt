@@ -16,30 +16,28 @@ use Rattle.snapshot.specs.Snapshot.{read_of, write_of}
 use Rattle.snapshot.proofs.RoundTrips.{reading_undoes_writing}
 use Rattle.run.specs.Run.{Run, ran, run_of}
 use Rattle.run.specs.Over.{said_by, run_in, RunsIn}
-use Rattle.run.specs.declared.over.Over.{Over}
 use Rattle.run.proofs.Unroll.{step}
 use Rattle.run.proofs.Stretched.{long}
 use Rattle.run.proofs.Turns.{said_sound}
 use Rattle.run.proofs.Through.{run_sound}
 use Rattle.run.proofs.Calls.{run_in_passed}
 use Rattle.schedule.specs.Schedule.{Record, rising, offered, stopped, scheduled}
-use Rattle.schedule.specs.Follow.{rest_from, said_run, until_of}
+use Rattle.schedule.specs.Follow.{Told, rest_from, said_run, until_of}
 use Rattle.schedule.proofs.Steps.{ByNumber, by_number, not_due, quiet}
 
--- ---- how a run with no offer ends: its count is at most its budget, and is it where the answer is 24; it never answers 17
+-- ---- how a run with no offer ends: its count is at most its budget, and is it where the answer is 24
 record Ends (b : ℕ) (r : Run) : Type 0 where
   few : r.count ≤ b
   whole : r.answer ≡ 24 → r.count ≡ b
-  apart : eqb r.answer 17 ≡ false
 
 ends_step : (refused ends : Bool) (t : Tick) (b : ℕ) (r : Run) → ByNumber None t → Ends b r → Ends (suc b) (step refused ends t r)
-ends_step true ends t b r n e = record { few = omega arith; whole = λ z. clash (sym (eq-eqb _ 24 z) ∙ n.unspent); apart = n.unoffered refl }
-ends_step false true t b r n e = record { few = omega arith; whole = λ z. clash (sym (eq-eqb _ 24 z) ∙ n.unspent); apart = n.unoffered refl }
-ends_step false false t b r n e = record { few = omega (arith, e.few); whole = λ z. omega (arith, e.whole z); apart = e.apart }
+ends_step true ends t b r n e = record { few = omega arith; whole = λ z. clash (sym (eq-eqb _ 24 z) ∙ n.unspent) }
+ends_step false true t b r n e = record { few = omega arith; whole = λ z. clash (sym (eq-eqb _ 24 z) ∙ n.unspent) }
+ends_step false false t b r n e = record { few = omega (arith, e.few); whole = λ z. omega (arith, e.whole z) }
 
 run_ends : (b : ℕ) (k : Core) (p m : List ℕ) → Ends b (run_of b k p m None)
 unfolding ran
-run_ends zero k p m = record { few = omega arith; whole = λ _. refl; apart = refl }
+run_ends zero k p m = record { few = omega arith; whole = λ _. refl }
 run_ends (suc b) k p m =
     let t = tick_of k p m None in
     ends_step (refuses t.answer) (stops t.answer) t b (run_of b t.core p t.bytes None) (by_number k p m None) (run_ends b t.core p t.bytes)
@@ -52,12 +50,12 @@ pub record Quiet : Type 0 where
   pub m : List ℕ
   pub s' : List ℕ
   pub m' : List ℕ
-  pub a : Over
+  pub a : Told
   pub read : (read_of s).refusal ≡ 0
   pub snapshot_bytes : Bytes s
   pub program_bytes : Bytes p
   pub data_bytes : Bytes m
-  pub runs : RunsIn (run_in s p m None u) a s' m'
+  pub runs : RunsIn (run_in s p m None u) a.answer a.ticks s' m'
 
 module _ (Q : Quiet) where
   open Q use {u, s, p, m, s', m', a, read, snapshot_bytes, program_bytes, data_bytes, runs}
@@ -89,10 +87,6 @@ module _ (Q : Quiet) where
   pub all_done : a.answer ≡ 24 → a.ticks ≡ u
   all_done e = counted ∙ (run_ends u (said_by s) p m).whole (sym answered ∙ e)
 
-  -- and 17 is not said
-  pub apart : eqb a.answer 17 ≡ false
-  apart = rw answered (run_ends u (said_by s) p m).apart
-
   core : said_by s' ≡ r.core
   core = ap (λ x. x.core) ran_read
 
@@ -113,7 +107,7 @@ module _ (Q : Quiet) where
         ∙ ap (λ (z : Core). scheduled (b - done - u) (done + u) z p m' ds) core ∙ ap (λ (z : List ℕ). scheduled (b - done - u) (done + u) r.core p z ds) left))
 
     -- or it ended before
-    pub ends_there : (x : Over) → (a.answer ≡ 24 → ⊥) → x.answer ≡ a.answer → x.ticks ≡ done + a.ticks → rest_from b done s p m ds ≡ stopped (said_run x s' m') ds
+    pub ends_there : (x : Told) → (a.answer ≡ 24 → ⊥) → x.answer ≡ a.answer → x.ticks ≡ done + a.ticks → rest_from b done s p m ds ≡ stopped (said_run x s' m') ds
     ends_there x z e c =
         let apart = ne_eqb r.answer 24 (λ y. z (answered ∙ y)) in
         let run : said_run x s' m' ≡ record { answer = r.answer; count = done + r.count; core = r.core; bytes = r.bytes } = cc (e, answered, c, counted, core, left) in

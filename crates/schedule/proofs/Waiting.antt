@@ -6,7 +6,6 @@ use mathlib.Core.List.{List, ◌∷◌}
 use Prim.Native.Nat.{ℕ, suc, ◌+◌, ◌-◌, ◌≤◌, ◌<◌}
 use native.Mathlib.Omega.{arith}
 use lib.Dec.{eqb, leb, ltb}
-use lib.ListN.{length}
 use borrow.Author.Tests.{lt-ltb, le-ltb, le-leb, lt-leb, ne_eqb, eq-eqb}
 use Rattle.basis.specs.Bytes.{Bytes}
 use Rattle.tick.specs.Tick.{Tick, number_of, tick_of}
@@ -14,10 +13,9 @@ use Rattle.std.specs.Prelude.{Some}
 use Rattle.snapshot.specs.Snapshot.{read_of}
 use Rattle.run.specs.Run.{ended}
 use Rattle.run.specs.Over.{said_by, tick_over, tick_in, TicksIn}
-use Rattle.run.specs.declared.over.Over.{Over}
 use Rattle.run.proofs.Turns.{next_read}
-use Rattle.schedule.specs.Schedule.{Record, offered, Scheduled, stopped, scheduled}
-use Rattle.schedule.specs.Follow.{rest_from, said_run, served_by}
+use Rattle.schedule.specs.Schedule.{Record, offered, Scheduled, stopped, noted, scheduled}
+use Rattle.schedule.specs.Follow.{Told, rest_from, said_run}
 use Rattle.schedule.proofs.Steps.{step_by, tick_by}
 
 -- the record that waits
@@ -26,10 +24,6 @@ waiting tick vector = record { tick = tick; vector = vector }
 
 -- where `wait` stands: the rest of the run from here is the rest from where it began
 pub record Stands (s₀ p m₀ : List ℕ) (vector done₀ b : ℕ) (s m : List ℕ) (done : ℕ) : Type 0 where
-  pub onward : done₀ ≤ done
-  pub low : done ≤ b
-  pub same_snapshot : length s ≡ length s₀
-  pub same_data : length m ≡ length m₀
   pub read : (read_of s).refusal ≡ 0
   pub snapshot_bytes : Bytes s
   pub data_bytes : Bytes m
@@ -100,29 +94,28 @@ module _ (T : Turn) where
         step_by (ltb n 16) (leb 22 n) (eqb n 17) done t (d ∷ ds) (scheduled (b - suc done) (suc done) t.core p t.bytes ds) (scheduled (b - suc done) (suc done) t.core p t.bytes (d ∷ ds))) offers
         ∙ rw (said ds, said (d ∷ ds), numbered)
 
-    -- the run that the snapshot then says
-    over : (a : Over) (count : ℕ) → a.answer ≡ n → a.ticks ≡ count → said_run a s' m' ≡ ended count t
-    over a count e c = let core : said_by s' ≡ t.core = ap (λ r. r.core) next_said in cc (e, numbered, c, core, left)
+    -- refused, or stopped: the run that the snapshot then says
+    module _ (a : Told) (e : a.answer ≡ n) where
+      ends : (count : ℕ) → a.ticks ≡ count → stopped (said_run a s' m') (d ∷ ds) ≡ stopped (ended count t) (d ∷ ds)
+      ends count c =
+          let core : said_by s' ≡ t.core = ap (λ r. r.core) next_said in
+          let over : said_run a s' m' ≡ ended count t = cc (e, numbered, c, core, left) in
+          ap (λ r. stopped r (d ∷ ds)) over
 
-    module _ (a : Over) (e : a.answer ≡ n) where
-      -- refused, or stopped
-      ends : (count : ℕ) → a.ticks ≡ count → (n ≡ 17 → ⊥) → served_by a b s' p m' d ds ≡ stopped (ended count t) (d ∷ ds)
-      ends count c z = rw (ne_eqb a.answer 17 (λ x. z (sym e ∙ x))) (ap (λ r. stopped r (d ∷ ds)) (over a count e c))
+      pub waits_refused : n < 16 → a.ticks ≡ done → rest_from b done s p m (d ∷ ds) ≡ stopped (said_run a s' m') (d ∷ ds)
+      waits_refused z c = by_tick ∙ rw (lt-ltb n 16 z) (sym (ends done c))
 
-      pub waits_refused : n < 16 → a.ticks ≡ done → rest_from b done s p m (d ∷ ds) ≡ served_by a b s' p m' d ds
-      waits_refused z c = by_tick ∙ rw (lt-ltb n 16 z) (sym (ends done c (λ x. omega (arith, x))))
+      pub waits_stopped : 22 ≤ n → a.ticks ≡ done + 1 → rest_from b done s p m (d ∷ ds) ≡ stopped (said_run a s' m') (d ∷ ds)
+      waits_stopped z c = by_tick ∙ rw (le-ltb n 16 (omega arith), le-leb 22 n z) (sym (ends (suc done) (omega (arith, c))))
 
-      pub waits_stopped : 22 ≤ n → a.ticks ≡ done + 1 → rest_from b done s p m (d ∷ ds) ≡ served_by a b s' p m' d ds
-      waits_stopped z c = by_tick ∙ rw (le-ltb n 16 (omega arith), le-leb 22 n z) (sym (ends (suc done) (omega (arith, c)) (λ x. omega (arith, x))))
-
-      pub waits_entered : n ≡ 17 → a.ticks ≡ done + 1 → rest_from b done s p m (d ∷ ds) ≡ served_by a b s' p m' d ds
-      waits_entered z c = let one : a.ticks ≡ suc done = omega (arith, c) in by_tick ∙ rw (e, z, one)
+    pub waits_entered : n ≡ 17 → rest_from b done s p m (d ∷ ds) ≡ noted (done + 1) (rest_from b (done + 1) s' p m' ds)
+    waits_entered z = let one : done + 1 ≡ suc done = omega arith in by_tick ∙ rw (z, one)
 
     pub waits_on : 16 ≤ n → (n ≡ 17 → ⊥) → n < 22 → rest_from b done s p m (d ∷ ds) ≡ rest_from b (done + 1) s' p m' (d ∷ ds)
     waits_on x y z = let one : done + 1 ≡ suc done = omega arith in by_tick ∙ rw (le-ltb n 16 x, lt-leb 22 n z, ne_eqb n 17 y, one)
 
 -- no tick is left
-pub waits_spent : (b done : ℕ) (s p m : List ℕ) (d : Record) (ds : List Record) (a : Over) → a.answer ≡ 24 → a.ticks ≡ done → b ≤ done
-    → rest_from b done s p m (d ∷ ds) ≡ served_by a b s p m d ds
+pub waits_spent : (b done : ℕ) (s p m : List ℕ) (d : Record) (ds : List Record) (a : Told) → a.answer ≡ 24 → a.ticks ≡ done → b ≤ done
+    → rest_from b done s p m (d ∷ ds) ≡ stopped (said_run a s m) (d ∷ ds)
 unfolding scheduled
 waits_spent b done s p m d ds a e c h = let none : b - done ≡ 0 = omega arith in rw (none, e, c)

@@ -19,11 +19,9 @@ use Rattle.std.specs.Prelude.{None}
 use Rattle.invariants.specs.Ticks.{TickNumber}
 use Rattle.invariants.proofs.Ticks.{ticks_answer_tick_numbers}
 use Rattle.snapshot.specs.Snapshot.{read_of, write_of}
-use Rattle.snapshot.specs.Snapshot.{SnapshotRead}
 use Rattle.snapshot.proofs.RoundTrips.{writing_undoes_reading}
-use Rattle.run.specs.Run.{Run, Runs}
-use Rattle.run.specs.declared.Ran.{Ran}
-use Rattle.run.specs.Over.{said_by, RunsIn}
+use Rattle.run.specs.Run.{Run, ended_number}
+use Rattle.run.specs.Over.{said_by}
 use Rattle.run.specs.Over as over
 use Rattle.run.specs.declared.over.Over.{Over}
 use Rattle.run.proofs.Calls.{run_in_refused, check_told}
@@ -35,50 +33,40 @@ use Rattle.schedule.proofs.Following.{many_records}
 
 -- ---- over a snapshot
 module _ (s p m l : List ℕ) (done b : ℕ) (e : List ℕ) where
-  abbrev Given : Over → List ℕ → List ℕ → List ℕ → Type 0
-  Given a s' m' e' = RunsIn (schedule_from s p m l done (b - done) e).run a s' m' × (e' ≡ (schedule_from s p m l done (b - done) e).numbers)
-
-  pub in_refused : (n : ℕ) → refusal_in s l (length e) ≡ n → (n ≡ 0 → ⊥) → (a : Over) → a.answer ≡ n → a.ticks ≡ done → Given a s m e
-  in_refused n g h a f c =
+  pub in_refused : (n : ℕ) → refusal_in s l (length e) ≡ n → (n ≡ 0 → ⊥)
+      → schedule_from s p m l done (b - done) e ≡ record { run = record { answer = n; count = done; snapshot = s; bytes = m }; numbers = e }
+  in_refused n g h =
       let no = ne_eqb (refusal_in s l (length e)) 0 (λ z. h (sym g ∙ z)) in
-      rw no (record { answer = f ∙ sym g; count = c; snapshot = refl; bytes = refl }, refl)
+      rw (no, g)
 
   -- `follow` is given a budget that is no less than what is done
-  pub in_passed : refusal_in s l (length e) ≡ 0 → length s ≡ 38 → (a : Over) (u : ℕ) {s' m' e' : List ℕ} → u ≡ max b done → Bytes s' → Follows s p m l done u e a s' m' e' → Given a s' m' e'
-  in_passed g long a u {s'} {m'} is bs w =
+  pub in_passed : refusal_in s l (length e) ≡ 0 → length s ≡ 38 → (a : Over) (u : ℕ) {s' m' e' : List ℕ} → u ≡ max b done → Bytes s' → Follows s p m l done u e a s' m' e'
+      → schedule_from s p m l done (b - done) e ≡ record { run = record { answer = ended_number a.ended; count = a.ticks; snapshot = s'; bytes = m' }; numbers = e' }
+  in_passed g long a u {s'} {m'} {e'} is bs w =
       let yes = eq-eqb (refusal_in s l (length e)) 0 g in
       let left : u - done ≡ b - done = omega (arith, is) in
       let same : rest_from u done s p m (records_of l) ≡ rest_from b done s p m (records_of l) = ap (λ (n : ℕ). scheduled n done (said_by s) p m (records_of l)) left in
       let run = w.run ∙ ap (λ x. x.run) same in
       let back = ap (λ r. r.bytes) (writing_undoes_reading s' s bs w.read long) in
-      rw yes (
-        record {
-          answer = ap (λ r. r.answer) run;
-          count = ap (λ r. r.count) run;
-          snapshot = sym back ∙ ap (λ r. (write_of r.core s).bytes) run;
-          bytes = ap (λ r. r.bytes) run;
-        },
-        w.numbers ∙ ap (λ x. numbers_of x.entries e) same,
-      )
+      rw yes (ap (λ (r : Run). record { run = record { answer = r.answer; count = r.count; snapshot = (write_of r.core s).bytes; bytes = r.bytes }; numbers = numbers_of (rest_from b done s p m (records_of l)).entries e }) (sym run)
+      ∙ ap (λ (x : List ℕ). record { run = record { answer = ended_number a.ended; count = a.ticks; snapshot = x; bytes = m' }; numbers = numbers_of (rest_from b done s p m (records_of l)).entries e }) back
+      ∙ ap (λ (x : List ℕ). record { run = record { answer = ended_number a.ended; count = a.ticks; snapshot = s'; bytes = m' }; numbers = x }) (sym (w.numbers ∙ ap (λ x. numbers_of x.entries e) same)))
 
 -- ---- of a core
 module _ (b : ℕ) (k : Core) (p m l e : List ℕ) where
   abbrev y : Scheduled
   y = scheduled b 0 k p m (records_of l)
 
-  abbrev Gives : Ran → List ℕ → List ℕ → Type 0
-  Gives r m' e' = Runs (schedule_of b k p m l e).run r m' × (e' ≡ (schedule_of b k p m l e).numbers)
-
-  pub of_refused : (n : ℕ) → refusal_of l (length e) ≡ n → (n ≡ 0 → ⊥) → {r : Ran} → r ≡ record { answer = n; ticks = 0; core = k } → Gives r m e
-  of_refused n g h c =
+  pub of_refused : (n : ℕ) → refusal_of l (length e) ≡ n → (n ≡ 0 → ⊥) → schedule_of b k p m l e ≡ record { run = record { answer = n; count = 0; core = k; bytes = m }; numbers = e }
+  of_refused n g h =
       let no = ne_eqb (refusal_of l (length e)) 0 (λ z. h (sym g ∙ z)) in
-      rw no (record { answer = ap (λ r. r.answer) c ∙ sym g; count = ap (λ r. r.ticks) c; core = ap (λ r. r.core) c; bytes = refl }, refl)
+      rw (no, g)
 
   -- by what the scheduled run is
-  of_passed : refusal_of l (length e) ≡ 0 → {r : Ran} {m' e' : List ℕ} → record { answer = r.answer; count = r.ticks; core = r.core; bytes = m' } ≡ y.run → e' ≡ numbers_of y.entries e → Gives r m' e'
+  of_passed : refusal_of l (length e) ≡ 0 → {r : Run} {e' : List ℕ} → y.run ≡ r → numbers_of y.entries e ≡ e' → schedule_of b k p m l e ≡ record { run = r; numbers = e' }
   of_passed g f n =
       let yes = eq-eqb (refusal_of l (length e)) 0 g in
-      rw yes (record { answer = ap (λ (z : Run). z.answer) f; count = ap (λ (z : Run). z.count) f; core = ap (λ (z : Run). z.core) f; bytes = ap (λ (z : Run). z.bytes) f }, n)
+      rw (yes, f, n)
 
   -- "Busy above 4: refusal 5", and with no budget 24
   at_once : (b : ℕ) (ds : List Record) → 4 < k.busy → scheduled b 0 k p m ds ≡ stopped (record { answer = pick (eqb b 0) 24 5; count = 0; core = k; bytes = m }) ds
@@ -89,22 +77,21 @@ module _ (b : ℕ) (k : Core) (p m l e : List ℕ) where
       ∙ ap (λ (t : Tick). step_by (refuses t.answer) (stops t.answer) (eqb (number_of t.answer) 17) 0 t ds (scheduled b 1 t.core p t.bytes (drop 1 ds)) (scheduled b 1 t.core p t.bytes ds))
       (too_busy_lem k p m (offered 1 ds) h))
 
-  pub of_busy : refusal_of l (length e) ≡ 0 → 4 < k.busy → {r : Ran} {e' : List ℕ} → r ≡ record { answer = pick (eqb b 0) 24 5; ticks = 0; core = k }
-      → e' ≡ replicate (length l / 5) 0 ++ drop (length l / 5) e → Gives r m e'
-  of_busy g h c n =
+  pub of_busy : refusal_of l (length e) ≡ 0 → 4 < k.busy
+      → schedule_of b k p m l e ≡ record { run = record { answer = pick (eqb b 0) 24 5; count = 0; core = k; bytes = m }; numbers = replicate (length l / 5) 0 ++ drop (length l / 5) e }
+  of_busy g h =
       let is = at_once b (records_of l) h in
       let many = length l / 5 in
       let zeros : ℕ → List ℕ = λ n. replicate n 0 in
-      of_passed g (ap (λ r. record { answer = r.answer; count = r.ticks; core = r.core; bytes = m }) c ∙ sym (ap (λ z. z.run) is))
-      (n ∙ sym (ap (λ z. numbers_of z.entries e) is ∙ ap (λ (c : ℕ). numbers_of (zeros c) e) (many_records l 0 many) ∙ ap (λ (c : ℕ). zeros many ++ drop c e) (length-replicate many 0)))
+      of_passed g (ap (λ z. z.run) is)
+      (ap (λ z. numbers_of z.entries e) is ∙ ap (λ (c : ℕ). numbers_of (zeros c) e) (many_records l 0 many) ∙ ap (λ (c : ℕ). zeros many ++ drop c e) (length-replicate many 0))
 
   -- through its snapshot
-  pub of_followed : refusal_of l (length e) ≡ 0 → (s : List ℕ) → read_of s ≡ record { refusal = 0; core = k } → (a : Over) (z : SnapshotRead) {s' m' e' : List ℕ} {r : Ran}
-      → Follows s p m l 0 b e a s' m' e' → z ≡ read_of s' → r ≡ record { answer = a.answer; ticks = a.ticks; core = z.core } → Gives r m' e'
-  of_followed g s f a z {s'} {m'} w q c =
+  pub of_followed : refusal_of l (length e) ≡ 0 → (s : List ℕ) → read_of s ≡ record { refusal = 0; core = k } → (a : Over) {s' m' e' : List ℕ} → Follows s p m l 0 b e a s' m' e'
+      → schedule_of b k p m l e ≡ record { run = record { answer = ended_number a.ended; count = a.ticks; core = said_by s'; bytes = m' }; numbers = e' }
+  of_followed g s f a {s'} {m'} w =
       let same : rest_from b 0 s p m (records_of l) ≡ y = rw sub-zero (ap (λ r. scheduled b 0 r.core p m (records_of l)) f) in
-      of_passed g (ap (λ r. record { answer = r.answer; count = r.ticks; core = r.core; bytes = m' }) c
-      ∙ ap (λ r. record { answer = a.answer; count = a.ticks; core = r.core; bytes = m' }) q ∙ w.run ∙ ap (λ t. t.run) same) (w.numbers ∙ ap (λ t. numbers_of t.entries e) same)
+      of_passed g (sym (w.run ∙ ap (λ t. t.run) same)) (sym (w.numbers ∙ ap (λ t. numbers_of t.entries e) same))
 
 -- ---- the numbers of the checks
 tick_apart : (n : ℕ) → TickNumber n → of_check n ≡ false

@@ -1,21 +1,25 @@
 -- 02, W5: "Field staff give us the ticks at which the sample timer fired. We want a run driven by such a list."
 -- l are the bytes of a list, i is the number of a record, from 0, d a record, ds are records, in a run those not yet entered; k is a core, p a program, m the bytes of data, s the bytes of a
 -- snapshot, e the numbers lent for output, t what a tick gives, r what a run gives, x what a scheduled run gives, n a number of 01's table or 02's.
-use Rattle.std.specs.Prelude.{Bool, true, false, ◌&&◌, ◌||◌, List, [], ◌∷◌, ◌++◌, ℕ, zero, suc, ◌+◌, ◌*◌, ◌/◌, ◌%◌, eqb, leb, ltb, get_or, drop, length, replicate}
+use Rattle.std.specs.Prelude.{Bool, true, false, ◌&&◌, ◌||◌, List, [], ◌∷◌, ◌++◌, ℕ, zero, suc, ◌+◌, ◌*◌, ◌/◌, ◌%◌, eqb, leb, ltb, get_or, drop, length, replicate, Result, Ok, Err}
 use Rattle.basis.specs.Pick.{pick}
 use Rattle.cores.specs.declared.Core.{Core}
 use Rattle.tick.specs.Tick.{number_of, refuses, stops, tick_of}
 use Rattle.tick.specs.Offer.{Offer}
 use Rattle.std.specs.Prelude.{Some, None}
-use Rattle.snapshot.specs.Snapshot.{read_of, write_of}
-use Rattle.run.specs.Run.{Run, ended}
-use Rattle.run.specs.Over.{RunIn, said_by}
+use Rattle.snapshot.specs.Snapshot.{read_of, write_of, unreadable_number}
+use Rattle.run.specs.Run.{Run, ended, ended_of}
+use Rattle.run.specs.Over.{RunIn, said_by, unreadable_of}
+use Rattle.run.specs.declared.Ran.{Ran}
+use Rattle.run.specs.declared.over.Over.{Over}
+use Rattle.schedule.specs.declared.list.Unlisted.{Unlisted}
+use Rattle.schedule.specs.declared.list.Unlisted.TheVariants.{Whole, Rising, Room}
+use Rattle.schedule.specs.declared.Refused.{Refused}
+use Rattle.schedule.specs.declared.Refused.TheVariants as refused
 
 -- ---- the list
 -- "Each record is 40 bits, most significant first: tick number 24 bits, vector 16 bits"
-pub record Record : Type 0 where
-  pub tick : ℕ
-  pub vector : ℕ
+pub use Rattle.schedule.specs.declared.list.Record.{Record}
 
 -- record number i
 abbrev pub record_at : List ℕ → ℕ → Record
@@ -41,6 +45,23 @@ rising last (d ∷ ds) = ltb last d.tick && rising d.tick ds
 -- "Refusals: 30 list not whole records, 31 ticks zero or not rising, 32 output shorter than the number of records; in that order"; 0 is none
 abbrev pub refusal_of : List ℕ → ℕ → ℕ
 refusal_of l room = pick (eqb (length l % 5) 0) (pick (rising 0 (records_of l)) (pick (ltb room (length l / 5)) 32 0) 31) 30
+
+-- the number of each refusal, and of what the code's check hands back
+abbrev pub unlisted_number : Unlisted → ℕ
+unlisted_number Whole = 30
+unlisted_number Rising = 31
+unlisted_number Room = 32
+
+abbrev pub said_check : Result Unit Unlisted → ℕ
+said_check (Ok x) = 0
+said_check (Err e) = unlisted_number e
+
+-- the check of a number, and x where none refuses
+abbrev pub unlisted_of : ℕ → Unlisted
+unlisted_of n = pick (eqb n 30) Whole (pick (eqb n 31) Rising Room)
+
+abbrev pub listed : {A : Type 0} → ℕ → A → Result A Unlisted
+listed n x = pick (eqb n 0) (Ok x) (Err (unlisted_of n))
 
 -- ---- the run
 -- "At every tick the earliest record that is due and not yet entered is offered." It is due at its tick and at every later one
@@ -95,6 +116,10 @@ schedule_of budget k p m l e =
     pick (eqb refusal 0) (record { run = x.run; numbers = numbers_of x.entries e })
     (record { run = record { answer = refusal; count = 0; core = k; bytes = m }; numbers = e })
 
+-- a run as the code hands it back
+abbrev pub ran_of : Run → Ran
+ran_of r = record { ended = ended_of r.answer; ticks = r.count; core = r.core }
+
 -- over a snapshot: 7, 8 and 9 before the rest
 abbrev pub refusal_in : List ℕ → List ℕ → ℕ → ℕ
 refusal_in s l room = pick (eqb (read_of s).refusal 0) (refusal_of l room) (read_of s).refusal
@@ -115,6 +140,17 @@ schedule_from s p m l done left e =
 
 abbrev pub schedule_in : List ℕ → List ℕ → List ℕ → List ℕ → ℕ → List ℕ → ScheduleIn
 schedule_in s p m l budget e = schedule_from s p m l 0 budget e
+
+-- as the code hands it back: the refusal of a number, and x where none refuses
+abbrev pub refused_number : Refused → ℕ
+refused_number (refused.Unreadable e) = unreadable_number e
+refused_number (refused.Unlisted e) = unlisted_number e
+
+abbrev pub started : {A : Type 0} → ℕ → A → Result A Refused
+started n x = pick (eqb n 0) (Ok x) (Err (pick (leb 30 n) (refused.Unlisted (unlisted_of n)) (refused.Unreadable (unreadable_of n))))
+
+abbrev pub over_of : RunIn → Over
+over_of r = record { ended = ended_of r.answer; ticks = r.count }
 
 -- the numbers of the checks, 7 to 9 and 30 to 32, which no run answers
 abbrev pub of_check : ℕ → Bool

@@ -1,23 +1,12 @@
 // A run through the records of a list: with no offer until one is due, then with its vector until it is entered.
-ghost use Rattle.std.specs.Prelude.{◌≡◌, ◌++◌, ◌/◌, ◌<◌, ◌≤◌, length, replicate, drop};
+ghost use Rattle.std.specs.Prelude.{◌≡◌, ◌≤◌, length};
 ghost use Rattle.snapshot.specs.Snapshot.{read_of};
 ghost use Rattle.schedule.specs.Schedule.{refusal_of};
 ghost use Rattle.schedule.specs.Follow.{until_of, Serves, Waits, Follows};
 
-use crate::list::{tick_at, vector_at};
-use run::Over;
-
-const ENTERED: u8 = 17;
-
-const BREAK: u8 = 22;
-
-const BUDGET: u8 = 24;
-
-pub(crate) fn told(answer: u8, ticks: u32) -> Over
-    ensures { result ≡ record { answer = answer; ticks = ticks } }
-{
-    Over { answer, ticks }
-}
+use crate::list::{Record, record_of};
+use run::{Ended, Over};
+use tick::Answer;
 
 // How many ticks are left before a record is due, at most what is left of the budget.
 fn until(tick: u32, done: u32, budget: u32) -> u32
@@ -30,67 +19,52 @@ fn until(tick: u32, done: u32, budget: u32) -> u32
     if tick > done { tick - 1 - done } else { 0 }
 }
 
-// With a vector offered, tick by tick: 17 and the tick of its entry, or how the run ended before.
+// With a vector offered, tick by tick: the tick of its entry, or how the run ended before.
 fn wait(
     snapshot: &mut [u8],
     program: &[u8],
     data: &mut [u8],
     vector: u16,
-    done0: u32,
+    from: u32,
     budget: u32,
-) -> Over
-    requires { ((read_of snapshot.old).refusal ≡ 0) × (done0 ≤ budget) }
-    ensures { Waits snapshot.old program.now «data».old vector done0 budget result snapshot.new «data».new }
+) -> Result<u32, Over>
+    requires { ((read_of snapshot.old).refusal ≡ 0) × (from ≤ budget) }
+    ensures { Waits snapshot.old program.now «data».old vector from budget result snapshot.new «data».new }
 {
-    let mut done = done0;
-    while done < budget {
-        let number = run::tick_in(snapshot, program, data, Some(vector));
-        if number < 16 {
-            return told(number, done);
-        }
-        done = done + 1;
-        if (number == ENTERED) | (number >= BREAK) {
-            return told(number, done);
+    for done in from..budget {
+        let answer = run::tick_in(snapshot, program, data, Some(vector)).unwrap();
+        let ended = answer.into();
+        match answer {
+            Answer::Entered => return Ok(done + 1),
+            Answer::Refused(_) => return Err(Over { ended, ticks: done }),
+            Answer::Break | Answer::End => return Err(Over { ended, ticks: done + 1 }),
+            _ => {}
         }
     }
-    told(BUDGET, done)
+    Err(Over {
+        ended: Ended::Budget,
+        ticks: budget,
+    })
 }
 
-// One record: 17 and the tick of its entry, or how the run ended before.
+// One record: the tick of its entry, or how the run ended before.
 fn serve(
     snapshot: &mut [u8],
     program: &[u8],
     data: &mut [u8],
-    tick: u32,
-    vector: u16,
+    record: Record,
     done: u32,
     budget: u32,
-) -> Over
+) -> Result<u32, Over>
     requires { ((read_of snapshot.old).refusal ≡ 0) × (done ≤ budget) }
-    ensures { Serves snapshot.old program.now «data».old (record { tick = tick; vector = vector }) done budget result snapshot.new «data».new }
+    ensures { Serves snapshot.old program.now «data».old record done budget result snapshot.new «data».new }
 {
-    let ran = run::run_in(
-        snapshot,
-        program,
-        data,
-        None,
-        until(tick, done, budget),
-    );
-    if ran.answer != BUDGET {
-        return told(ran.answer, done + ran.ticks);
-    }
-    wait(snapshot, program, data, vector, done + ran.ticks, budget)
-}
-
-// No record is entered yet.
-pub(crate) fn clear(entered: &mut [u32], records: usize)
-    requires { records ≤ length entered.old }
-    ensures { entered.new ≡ replicate records 0 ++ drop records entered.old }
-{
-    let mut i: usize = 0;
-    while i < records {
-        entered[i] = 0;
-        i = i + 1;
+    let quiet = until(record.tick, done, budget);
+    let Over { ended, ticks } = run::run_in(snapshot, program, data, None, quiet).unwrap();
+    let ticks = done + ticks;
+    match ended {
+        Ended::Budget => wait(snapshot, program, data, record.vector, ticks, budget),
+        _ => Err(Over { ended, ticks }),
     }
 }
 
@@ -107,27 +81,21 @@ pub(crate) fn follow(
     requires { ((read_of snapshot.old).refusal ≡ 0) × ((refusal_of list.now (length entered.old) ≡ 0) × (from ≤ budget)) }
     ensures { Follows snapshot.old program.now «data».old list.now from budget entered.old result snapshot.new «data».new entered.new }
 {
-    let records = list.len() / 5;
-    clear(entered, records);
-    let mut i: usize = 0;
+    let (records, _) = list.as_chunks::<5>();
+    entered[..records.len()].fill(0);
     let mut done = from;
-    while i < records {
-        let served = serve(
-            snapshot,
-            program,
-            data,
-            tick_at(list, i),
-            vector_at(list, i),
-            done,
-            budget,
-        );
-        done = served.ticks;
-        if served.answer != ENTERED {
-            return told(served.answer, done);
+    for (i, bytes) in records.iter().enumerate() {
+        match serve(snapshot, program, data, record_of(*bytes), done, budget) {
+            Ok(tick) => {
+                entered[i] = tick;
+                done = tick;
+            }
+            Err(over) => return over,
         }
-        entered[i] = done;
-        i = i + 1;
     }
-    let ran = run::run_in(snapshot, program, data, None, budget - done);
-    told(ran.answer, done + ran.ticks)
+    let Over { ended, ticks } = run::run_in(snapshot, program, data, None, budget - done).unwrap();
+    Over {
+        ended,
+        ticks: done + ticks,
+    }
 }

@@ -1,24 +1,64 @@
 // Runs by a list of ticks at which interrupts fired: at every tick the earliest record that is due and not yet entered is offered.
 #![tactic(auto)]
 
-ghost use Rattle.std.specs.Prelude.{◌≡◌, ◌-◌, max, eqb};
-ghost use Rattle.basis.specs.Pick.{pick};
-ghost use Rattle.run.specs.Run.{Runs};
-ghost use Rattle.run.specs.Over.{RunsIn};
-ghost use Rattle.schedule.specs.Schedule.{schedule_of, schedule_in, schedule_from};
+ghost use Rattle.std.specs.Prelude.{◌≡◌, ◌-◌, length};
+ghost use Rattle.schedule.specs.Schedule.{
+  refusal_of,
+  refusal_in,
+  refused_number,
+  listed,
+  started,
+  ran_of,
+  over_of,
+  schedule_of,
+  schedule_in,
+  schedule_from,
+};
+ghost use Rattle.schedule.specs.declared.Refused.TheVariants as refused;
 
-use crate::follow::told;
 use cores::Core;
-use run::{Over, Ran};
+use run::{Ended, Over, Ran};
 
 mod follow;
 mod list;
 
-const BUDGET: u8 = 24;
+pub use list::Unlisted;
 
-const TOO_BUSY: u8 = 5;
+// Why nothing is run: by the snapshot, then by the list.
+#[derive(Clone, Copy, Debug, PartialEq, Eq)]
+pub enum Refused {
+    Unreadable(snapshot::Unreadable),
+    Unlisted(Unlisted),
+}
 
-// The answer is 30, 31 or 32 where the list or the output is refused, else as `run::run` gives it. `entered` gets a number a record: the tick of its entry, or 0.
+impl From<snapshot::Unreadable> for Refused {
+    ghost from_gives = { λ e r. r ≡ refused.Unreadable e };
+
+    fn from(refusal: snapshot::Unreadable) -> Refused {
+        Refused::Unreadable(refusal)
+    }
+}
+
+impl From<Unlisted> for Refused {
+    ghost from_gives = { λ e r. r ≡ refused.Unlisted e };
+
+    fn from(refusal: Unlisted) -> Refused {
+        Refused::Unlisted(refusal)
+    }
+}
+
+impl From<Refused> for u8 {
+    ghost from_gives = { λ e n. n ≡ refused_number e };
+
+    fn from(refusal: Refused) -> u8 {
+        match refusal {
+            Refused::Unreadable(refusal) => refusal.into(),
+            Refused::Unlisted(refusal) => refusal.into(),
+        }
+    }
+}
+
+// `entered` gets a number a record: the tick of its entry, or 0.
 pub fn run(
     core: Core,
     program: &[u8],
@@ -26,26 +66,24 @@ pub fn run(
     list: &[u8],
     budget: u32,
     entered: &mut [u32],
-) -> Ran
-    ensures runs { Runs (schedule_of budget core program.now «data».old list.now entered.old).run result «data».new }
+) -> Result<Ran, Unlisted>
+    ensures value { result ≡ listed (refusal_of list.now (length entered.old)) (ran_of (schedule_of budget core program.now «data».old list.now entered.old).run) }
+    ensures data_after { «data».new ≡ (schedule_of budget core program.now «data».old list.now entered.old).run.bytes }
     ensures entered_after { entered.new ≡ (schedule_of budget core program.now «data».old list.now entered.old).numbers }
 {
-    let refusal = list::refused(list, entered.len());
-    if refusal != 0 {
-        return ended(refusal, 0, core);
-    }
-    if core.busy > 4 {
-        follow::clear(entered, list.len() / 5);
-        return ended(at_once(budget), 0, core);
-    }
+    list::check(list, entered.len())?;
     let mut bytes = [0u8; 38];
-    snapshot::write(core, &mut bytes);
-    let over = follow::follow(&mut bytes, program, data, list, 0, budget, entered);
-    let read = snapshot::read(&bytes);
-    ended(over.answer, over.ticks, read.core)
+    if let Err(refusal) = snapshot::write(core, &mut bytes) {
+        entered[..list.len() / 5].fill(0);
+        let ended = if budget == 0 { Ended::Budget } else { Ended::Refused(refusal.into()) };
+        return Ok(Ran { ended, ticks: 0, core });
+    }
+    let Over { ended, ticks } = follow::follow(&mut bytes, program, data, list, 0, budget, entered);
+    let core = snapshot::read(&bytes).unwrap();
+    Ok(Ran { ended, ticks, core })
 }
 
-// The same over a snapshot, changed where it lies: 7, 8 and 9 before the rest.
+// The same over a snapshot, changed where it lies.
 pub fn run_in(
     snapshot: &mut [u8],
     program: &[u8],
@@ -53,8 +91,10 @@ pub fn run_in(
     list: &[u8],
     budget: u32,
     entered: &mut [u32],
-) -> Over
-    ensures runs_in { RunsIn (schedule_in snapshot.old program.now «data».old list.now budget entered.old).run result snapshot.new «data».new }
+) -> Result<Over, Refused>
+    ensures value { result ≡ started (refusal_in snapshot.old list.now (length entered.old)) (over_of (schedule_in snapshot.old program.now «data».old list.now budget entered.old).run) }
+    ensures snapshot_after { snapshot.new ≡ (schedule_in snapshot.old program.now «data».old list.now budget entered.old).run.snapshot }
+    ensures data_after { «data».new ≡ (schedule_in snapshot.old program.now «data».old list.now budget entered.old).run.bytes }
     ensures entered_after { entered.new ≡ (schedule_in snapshot.old program.now «data».old list.now budget entered.old).numbers }
 {
     go_on(snapshot, program, data, list, 0, budget, entered)
@@ -69,48 +109,21 @@ pub fn go_on(
     done: u32,
     budget: u32,
     entered: &mut [u32],
-) -> Over
-    ensures runs_in { RunsIn (schedule_from snapshot.old program.now «data».old list.now done (budget - done) entered.old).run result snapshot.new «data».new }
+) -> Result<Over, Refused>
+    ensures value { result ≡ started (refusal_in snapshot.old list.now (length entered.old)) (over_of (schedule_from snapshot.old program.now «data».old list.now done (budget - done) entered.old).run) }
+    ensures snapshot_after { snapshot.new ≡ (schedule_from snapshot.old program.now «data».old list.now done (budget - done) entered.old).run.snapshot }
+    ensures data_after { «data».new ≡ (schedule_from snapshot.old program.now «data».old list.now done (budget - done) entered.old).run.bytes }
     ensures entered_after { entered.new ≡ (schedule_from snapshot.old program.now «data».old list.now done (budget - done) entered.old).numbers }
 {
-    let read = snapshot::read(snapshot);
-    if read.refusal != 0 {
-        return told(read.refusal, done);
-    }
-    let refusal = list::refused(list, entered.len());
-    if refusal != 0 {
-        return told(refusal, done);
-    }
-    follow::follow(
+    snapshot::read(snapshot)?;
+    list::check(list, entered.len())?;
+    Ok(follow::follow(
         snapshot,
         program,
         data,
         list,
         done,
-        no_less(budget, done),
+        budget.max(done),
         entered,
-    )
-}
-
-fn no_less(budget: u32, done: u32) -> u32
-    ensures { result ≡ max budget done }
-{
-    if budget < done { done } else { budget }
-}
-
-// What a run answers that makes no tick: its budget is none, or it would be refused.
-fn at_once(budget: u32) -> u8
-    ensures { result ≡ pick (eqb budget 0) 24 5 }
-{
-    if budget == 0 { BUDGET } else { TOO_BUSY }
-}
-
-fn ended(answer: u8, ticks: u32, core: Core) -> Ran
-    ensures { result ≡ record { answer = answer; ticks = ticks; core = core } }
-{
-    Ran {
-        answer,
-        ticks,
-        core,
-    }
+    ))
 }

@@ -1,50 +1,74 @@
-// A list's records, five bytes each: the number of a tick, 24 bits, and a vector, 16 bits, high byte first.
-ghost use Rattle.std.specs.Prelude.{◌≡◌, ◌/◌, ◌<◌, length};
-ghost use Rattle.schedule.specs.Schedule.{record_at, records_of, rising, refusal_of};
+// A list's records, five bytes each.
+ghost use Rattle.std.specs.Prelude.{◌≡◌, map};
+ghost use Rattle.schedule.specs.Schedule.{record_at, rising, refusal_of, unlisted_number, said_check};
 
-pub(crate) fn tick_at(list: &[u8], i: usize) -> u32
-    requires { i < length list.now / 5 }
-    ensures { result ≡ (record_at list.now i).tick }
-{
-    let at = 5 * i;
-    list[at] as u32 * 65536 + list[at + 1] as u32 * 256 + list[at + 2] as u32
+// The number of a tick, and a vector.
+#[derive(Clone, Copy)]
+pub(crate) struct Record {
+    pub tick: u32,
+    pub vector: u16,
 }
 
-pub(crate) fn vector_at(list: &[u8], i: usize) -> u16
-    requires { i < length list.now / 5 }
-    ensures { result ≡ (record_at list.now i).vector }
+// Why a list is not run: it is not whole records; its ticks do not rise from 1 on; the output is shorter than the records.
+#[derive(Clone, Copy, Debug, PartialEq, Eq)]
+pub enum Unlisted {
+    Whole,
+    Rising,
+    Room,
+}
+
+impl From<Unlisted> for u8 {
+    ghost from_gives = { λ e n. n ≡ unlisted_number e };
+
+    fn from(refusal: Unlisted) -> u8 {
+        match refusal {
+            Unlisted::Whole => 30,
+            Unlisted::Rising => 31,
+            Unlisted::Room => 32,
+        }
+    }
+}
+
+// 24 bits and 16 bits, high byte first.
+pub(crate) fn record_of(bytes: [u8; 5]) -> Record
+    ensures { result ≡ record_at bytes 0 }
 {
-    let at = 5 * i;
-    list[at + 3] as u16 * 256 + list[at + 4] as u16
+    let [tick2, tick1, tick0, vector1, vector0] = bytes;
+    Record {
+        tick: u32::from_be_bytes([0, tick2, tick1, tick0]),
+        vector: u16::from_be_bytes([vector1, vector0]),
+    }
 }
 
 // The ticks are 1 or above, and strictly rise.
-fn rises(list: &[u8]) -> bool
-    ensures { result ≡ rising 0 (records_of list.now) }
+fn rises(records: &[[u8; 5]]) -> bool
+    ensures { result ≡ rising 0 (map (λ r. record_at r 0) records.now) }
 {
-    let records = list.len() / 5;
-    let mut last: u32 = 0;
-    let mut i: usize = 0;
-    while i < records {
-        let tick = tick_at(list, i);
+    let mut last = 0;
+    for bytes in records {
+        let tick = record_of(*bytes).tick;
         if tick <= last {
             return false;
         }
         last = tick;
-        i = i + 1;
     }
     true
 }
 
-// Checks 30, 31 and 32; 0 where they are passed. `room` is how many numbers the output has.
-pub(crate) fn refused(list: &[u8], room: usize) -> u8
-    ensures { result ≡ refusal_of list.now room }
+// `room` is how many numbers the output has.
+#[tactic(auto, using(crate::proofs::Records::records_are))]
+pub(crate) fn check(list: &[u8], room: usize) -> Result<(), Unlisted>
+    ensures { said_check result ≡ refusal_of list.now room }
 {
-    if list.len() % 5 != 0 {
-        return 30;
+    let (records, rest) = list.as_chunks::<5>();
+    if !rest.is_empty() {
+        return Err(Unlisted::Whole);
     }
-    if !rises(list) {
-        return 31;
+    if !rises(records) {
+        return Err(Unlisted::Rising);
     }
-    if room < list.len() / 5 { 32 } else { 0 }
+    if room < records.len() {
+        return Err(Unlisted::Room);
+    }
+    Ok(())
 }
