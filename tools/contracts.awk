@@ -4,7 +4,11 @@ BEGIN {
     # a clause's form, and the law of crates/promises/specs/OneOutcome.antt by which it pins what it speaks of:
     # D is a definition over what was there before the call, r the result, x a parameter or what it points to before the call, and x′ what it points to after it
     rules["r ≡ D"] = rules["x′ ≡ D"] = "equation"
+    rules["read_said r ≡ D"] = "reads_register"
+    rules["set_said x r ≡ D"] = "sets_register"
+    rules["lacking r ≡ D"] = "lacks"
     rules["said_read r ≡ D"] = "reads"
+    rules["said r ≡ D"] = "encodes"
     rules["Leaves D r x′"] = "leaves"
     rules["Leaves D (cored x′ r x) x′"] = "leaves_lent"
     rules["Changes D x x x x x r x′"] = "changes"
@@ -12,11 +16,11 @@ BEGIN {
     rules["Ticks D r x′"] = "ticks"
     rules["Ticks D (in_place r x′) x′"] = "ticks_in_place"
     rules["Runs D r x′"] = "runs"
-    rules["TicksIn D r x′ x′"] = "ticks_in"
-    rules["RunsIn D r x′ x′"] = "runs_in"
+    rules["TicksIn D (said_tick r) x′ x′"] = "ticks_in"
+    rules["RunsIn D (said_run r) (said_count r) x′ x′"] = "runs_in"
     rules["Writes D (said_write r) x′"] = "writes"
     rules["Prints D x r x′"] = "prints"
-    rules["Puts D D (page x′ r)"] = "puts"
+    rules["Gains x D x′"] = "gains"
     rules["Tells D r x′ x′"] = "tells"
     rules["TellsTicks D r x′ x′ x′"] = "tells_ticks"
     # where what the forms are written in is defined
@@ -27,9 +31,13 @@ BEGIN {
     homes["Executes"] = "Rattle.execute.specs.Execute"
     homes["Ticks"] = homes["in_place"] = "Rattle.tick.specs.Tick"
     homes["Runs"] = "Rattle.run.specs.Run"
-    homes["TicksIn"] = homes["RunsIn"] = "Rattle.run.specs.Over"
+    homes["TicksIn"] = homes["RunsIn"] = homes["said_tick"] = homes["said_run"] = homes["said_count"] = "Rattle.run.specs.Over"
     homes["Writes"] = homes["said_read"] = homes["said_write"] = "Rattle.snapshot.specs.Snapshot"
-    homes["Prints"] = homes["Puts"] = homes["page"] = "Rattle.page.specs.Page"
+    homes["Prints"] = "Rattle.page.specs.Page"
+    homes["Gains"] = "Rattle.page.specs.Gains"
+    homes["read_said"] = homes["set_said"] = "Rattle.cores.specs.State"
+    homes["lacking"] = "Rattle.execute.specs.Needs"
+    homes["said"] = "Rattle.encode.specs.Encode"
     homes["Tells"] = homes["TellsTicks"] = "Rattle.host.specs.Host"
 }
 
@@ -51,10 +59,14 @@ function arguments(text, parts,    count, depth, at, c) {
 function form(text,    parts, count, at, found) {
     count = arguments(text, parts)
     if (parts[2] == "≡") return letter(parts[1]) " ≡ " definition(substr(text, index(text, " ≡ ") + length(" ≡ ")))
-    if (parts[3] == "≡") return parts[1] " " letter(parts[2]) " ≡ " definition(substr(text, index(text, " ≡ ") + length(" ≡ ")))
+    if (parts[1] == "Gains") return parts[1] " " letter(parts[2]) " " definition(parts[3]) " " letter(parts[4])
+    if (index(text, " ≡ ") > 0) {
+        found = parts[1]
+        for (at = 2; parts[at] != "≡"; at++) found = found " " letter(parts[at])
+        return found " ≡ " definition(substr(text, index(text, " ≡ ") + length(" ≡ ")))
+    }
     found = parts[1] " " definition(parts[2])
     at = 3
-    if (parts[1] == "Puts") found = found " " definition(parts[at++])
     for (; at <= count; at++) found = found " " letter(parts[at])
     return found
 }
@@ -63,7 +75,7 @@ function letter(part,    parts, count, at, found) {
     if (part == "result") return "r"
     if (part ~ /^[A-Za-z_][A-Za-z0-9_]*(\.old|\.now)?$/) return "x"
     if (part ~ /^[A-Za-z_][A-Za-z0-9_]*\.new$/) return "x′"
-    if (part !~ /^\((in_place|page|cored|said_[a-z_]+) [^()]*\)$/) return "?"
+    if (part !~ /^\((in_place|cored|said_write|said_tick|said_run|said_count) [^()]*\)$/) return "?"
     count = arguments(substr(part, 2, length(part) - 2), parts)
     found = parts[1]
     for (at = 2; at <= count; at++) found = found " " letter(parts[at])
@@ -112,13 +124,14 @@ function gives(text,    names, value) {
 function pin(text, shape) {
     gsub(/[()]/, " ", text)
     pinned = pinned " " text " "
-    if (shape ~ /(^|[ (])r[ )]/) told = 1
+    if (shape ~ /(^|[ (])r[ )]/ && shape !~ /said_tick|said_run/) told = 1 # other results have those numbers too
     if (index(", " laws ",", ", " rules[shape] ",") == 0) laws = laws (laws == "" ? "" : ", ") rules[shape]
 }
 
 function finish() {
     if (contract == "" && !broken) fault("has no ensures")
     if (head ~ /->/ && !told) fault("says nothing of its result")
+    gsub(/: &mut Page<'_>/, ": \\&mut Page", head) # a buffer and a place in it, which `Gains` pins
     if (head ~ /[A-Z][A-Za-z0-9_]*<'/) fault("has a struct that holds a reference, which this tool does not read")
     lent(head)
     print "| `" crate "` | `" (type == "" ? path : type "::") name "` | `" contract "` | " laws " |"
@@ -227,8 +240,8 @@ exporting && /[;{]$/ && !/::\{$/ {
     if (!plain_export(export)) fault("an export that this tool does not read")
 }
 /^ ?(pub )?mod [a-z0-9_]+ \{/ { fault("a module in a file, which this tool does not read") }
-/^ ?pub struct [A-Za-z0-9_]+</ { fault("a struct that holds a reference, which this tool does not read") }
-/^impl From<[A-Za-z0-9_]+> for [A-Za-z0-9_]+ \{$/ {
+/^ ?pub struct [A-Za-z0-9_]+</ && !/^pub struct Page<'a> \{$/ { fault("a struct that holds a reference, which this tool does not read") }
+/^impl From<[A-Za-z0-9_:]+> for [A-Za-z0-9_]+ \{$/ {
     if (inside) finish()
     name = $0; sub(/^impl /, "", name); sub(/ \{$/, "", name)
     converting = inside = 1

@@ -13,8 +13,24 @@ use Rattle.effects.specs.Parts.{cored}
 use Rattle.tick.specs.declared.Answer.{Answer}
 use Rattle.tick.specs.declared.Ticked.{Ticked}
 use Rattle.run.specs.declared.Ran.{Ran}
-use Rattle.run.specs.declared.over.Over.{Over}
-use Rattle.page.specs.Page.{Page}
+use Rattle.run.specs.declared.Ended.{Ended}
+use Rattle.std.specs.Prelude.{Result, Ok, Err, ⊤, ◌==◌}
+use Rattle.basis.specs.Pick.{pick}
+use Rattle.cores.specs.declared.NoRegister.{NoRegister}
+use Rattle.cores.specs.State.{RegisterRead, RegisterSet, read_said, set_said}
+use Rattle.execute.specs.declared.lack.Lack.{Lack}
+use Rattle.execute.specs.declared.lack.Lack.TheVariants as lack
+use Rattle.execute.specs.Needs.{lacking}
+use Rattle.snapshot.specs.declared.Unreadable.{Unreadable}
+use Rattle.snapshot.specs.declared.Unreadable.TheVariants as unreadable
+use Rattle.snapshot.specs.declared.Unwritable.{Unwritable}
+use Rattle.snapshot.specs.declared.Unwritable.TheVariants as unwritable
+use Rattle.snapshot.specs.Snapshot.{SnapshotRead, said_read, said_write}
+use Rattle.encode.specs.declared.Words.{Words}
+use Rattle.encode.specs.declared.Words.TheVariants as words
+use Rattle.encode.specs.declared.Refusal.{Refusal}
+use Rattle.encode.specs.declared.Refusal.TheVariants as refusal
+use Rattle.encode.specs.Encode.{Encoded, said}
 use Rattle.promises.specs.OneOutcome.{OneOutcome, One}
 
 equation : {A : Type 0} {d x y : A} → x ≡ d → y ≡ d → x ≡ y
@@ -33,11 +49,83 @@ four e f g h = cc (e, f, g, h)
 ticked : {a a' : Answer} {k k' : Core} → a ≡ a' → k ≡ k' → Path Ticked (record { answer = a; core = k }) (record { answer = a'; core = k' })
 ticked e f = cc (e, f)
 
-ran : {a a' n n' : ℕ} {k k' : Core} → a ≡ a' → n ≡ n' → k ≡ k' → Path Ran (record { answer = a; ticks = n; core = k }) (record { answer = a'; ticks = n'; core = k' })
+ran : {a a' : Ended} {n n' : ℕ} {k k' : Core} → a ≡ a' → n ≡ n' → k ≡ k' → Path Ran (record { ended = a; ticks = n; core = k }) (record { ended = a'; ticks = n'; core = k' })
 ran e f g = cc (e, f, g)
 
-over : {a a' n n' : ℕ} → a ≡ a' → n ≡ n' → Path Over (record { answer = a; ticks = n }) (record { answer = a'; ticks = n' })
-over e f = cc (e, f)
+-- what says each result by something that tells it back is said by one result
+once : {A B : Type 0} (says : A → B) (told : B → A) → ((x : A) → told (says x) ≡ x) → (d : B) → One (λ (x : A). says x ≡ d)
+once says told back d x y e f = sym (back x) ∙ (ap told (equation e f) ∙ back y)
+
+reads_register : (d : RegisterRead) → One (λ (x : Result ℕ NoRegister). read_said x ≡ d)
+reads_register = once read_said told back
+    where
+    told : RegisterRead → Result ℕ NoRegister
+    told d = pick (d.refusal == 0) (Ok d.value) (Err (record {}))
+
+    back : (x : Result ℕ NoRegister) → told (read_said x) ≡ x
+    back (Ok v) = refl
+    back (Err e) = refl
+
+sets_register : (k : Core) (d : RegisterSet) → One (λ (x : Result Core NoRegister). set_said k x ≡ d)
+sets_register k = once (set_said k) told back
+    where
+    told : RegisterSet → Result Core NoRegister
+    told d = pick (d.refusal == 0) (Ok d.core) (Err (record {}))
+
+    back : (x : Result Core NoRegister) → told (set_said k x) ≡ x
+    back (Ok k') = refl
+    back (Err e) = refl
+
+lacks : (d : ℕ) → One (λ (x : Result ⊤ Lack). lacking x ≡ d)
+lacks = once lacking told back
+    where
+    told : ℕ → Result ⊤ Lack
+    told n = pick (n == 0) (Ok tt) (pick (n == 1) (Err lack.Program) (pick (n == 2) (Err lack.Room) (pick (n == 3) (Err lack.Stack) (Err lack.Data))))
+
+    back : (x : Result ⊤ Lack) → told (lacking x) ≡ x
+    back (Ok t) = refl
+    back (Err lack.Program) = refl
+    back (Err lack.Room) = refl
+    back (Err lack.Stack) = refl
+    back (Err lack.Data) = refl
+
+reads : (d : SnapshotRead) → One (λ (x : Result Core Unreadable). said_read x ≡ d)
+reads = once said_read told back
+    where
+    told : SnapshotRead → Result Core Unreadable
+    told d =
+        pick (d.refusal == 0) (Ok d.core) (pick (d.refusal == 7) (Err unreadable.Length) (pick (d.refusal == 8) (Err unreadable.Busy) (Err unreadable.Spare)))
+
+    back : (x : Result Core Unreadable) → told (said_read x) ≡ x
+    back (Ok k) = refl
+    back (Err unreadable.Length) = refl
+    back (Err unreadable.Busy) = refl
+    back (Err unreadable.Spare) = refl
+
+writes_said : (n : ℕ) → One (λ (x : Result ⊤ Unwritable). said_write x ≡ n)
+writes_said = once said_write told back
+    where
+    told : ℕ → Result ⊤ Unwritable
+    told n = pick (n == 0) (Ok tt) (pick (n == 7) (Err unwritable.Length) (Err unwritable.Busy))
+
+    back : (x : Result ⊤ Unwritable) → told (said_write x) ≡ x
+    back (Ok t) = refl
+    back (Err unwritable.Length) = refl
+    back (Err unwritable.Busy) = refl
+
+encodes : (d : Encoded) → One (λ (x : Result Words Refusal). said x ≡ d)
+encodes = once said told back
+    where
+    told : Encoded → Result Words Refusal
+    told d =
+        pick (d.refusal == 0) (Ok (pick (d.words == 1) (words.One d.first) (words.Two d.first d.second)))
+        (Err (pick (d.refusal == 33) refusal.Outside refusal.NoEncoding))
+
+    back : (x : Result Words Refusal) → told (said x) ≡ x
+    back (Ok (words.One w)) = refl
+    back (Ok (words.Two w s)) = refl
+    back (Err refusal.Outside) = refl
+    back (Err refusal.NoEncoding) = refl
 
 -- a core has its parts
 step : {pc pc' sp sp' s s' b b' : ℕ} {i i' v v' : Bool} → pc ≡ pc' → sp ≡ sp' → s ≡ s' → b ≡ b' → i ≡ i' → v ≡ v'
@@ -74,13 +162,18 @@ one_outcome =
       runs =
           λ o x y e f.
           two (ran (equation e.answer f.answer) (equation e.count f.count) (equation e.core f.core)) (equation e.bytes f.bytes);
-      ticks_in = λ o x y e f. three (equation e.number f.number) (equation e.snapshot f.snapshot) (equation e.bytes f.bytes);
-      runs_in = λ o x y e f. three (over (equation e.answer f.answer) (equation e.count f.count)) (equation e.snapshot f.snapshot) (equation e.bytes f.bytes);
-      writes = λ o x y e f. two (equation e.refusal f.refusal) (equation e.bytes f.bytes);
+      reads_register = reads_register;
+      sets_register = sets_register;
+      lacks = lacks;
+      reads = reads;
+      encodes = encodes;
+      ticks_in = λ o n x y e f. two (equation e.snapshot f.snapshot) (equation e.bytes f.bytes);
+      runs_in = λ o a n x y e f. two (equation e.snapshot f.snapshot) (equation e.bytes f.bytes);
+      writes = λ w x y e f. two (writes_said w.refusal x.0 y.0 e.refusal f.refusal) (equation e.bytes f.bytes);
       tells = λ o x y e f. three (equation e.number f.number) (equation e.snapshot f.snapshot) (equation e.bytes f.bytes);
       tells_ticks =
           λ o x y e f. four (equation e.number f.number) (equation e.snapshot f.snapshot) (equation e.bytes f.bytes) (equation e.ticks f.ticks);
       prints = λ t o x y e f. two (equation e.count f.count) (equation e.bytes f.bytes);
-      puts = λ g t x y e f. let same = equation e.is f.is in two (ap (λ (h : Page). h.at) same) (ap (λ (h : Page). h.bytes) same);
+      gains = λ g t x y e f. (equation e.same f.same, equation e.puts.is f.puts.is);
       nothing = λ x y e f. refl;
     }
