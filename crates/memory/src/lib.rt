@@ -41,10 +41,12 @@ pub fn read_word(bytes: &[u8], address: usize) -> u16
 pub fn get_progmem(program: &[u8], pc: u32) -> u16
     ensures { result ≡ program_word_of program.now pc }
 {
+    let address = pc as usize * 2;
     if has_word(program, pc) {
-        return read_word(program, pc as usize * 2);
+        read_word(program, address)
+    } else {
+        read(program, address) as u16
     }
-    read(program, pc as usize * 2) as u16
 }
 
 // Whether the word at a PC is wholly in the program.
