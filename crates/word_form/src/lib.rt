@@ -29,21 +29,21 @@ pub fn form_of(opcode: u16) -> u8
         9 => EOR, // 0010_01rd_dddd_rrrr
         10 => OR, // 0010_10rd_dddd_rrrr
         11 => MOV, // 0010_11rd_dddd_rrrr
-        12..=15 => CPI, // 0011_KKKK_dddd_KKKK
-        16..=19 => SBCI, // 0100_KKKK_dddd_KKKK
-        20..=23 => SUBI, // 0101_KKKK_dddd_KKKK
-        24..=27 => ORI, // 0110_KKKK_dddd_KKKK
-        28..=31 => ANDI, // 0111_KKKK_dddd_KKKK
-        32..=35 | 40..=43 => displaced(opcode),
+        12 | 13 | 14 | 15 => CPI, // 0011_KKKK_dddd_KKKK
+        16 | 17 | 18 | 19 => SBCI, // 0100_KKKK_dddd_KKKK
+        20 | 21 | 22 | 23 => SUBI, // 0101_KKKK_dddd_KKKK
+        24 | 25 | 26 | 27 => ORI, // 0110_KKKK_dddd_KKKK
+        28 | 29 | 30 | 31 => ANDI, // 0111_KKKK_dddd_KKKK
+        32 | 33 | 34 | 35 | 40 | 41 | 42 | 43 => displaced(opcode),
         36 => load_or_store(opcode),
         37 => one_register_or_word(opcode),
         38 => port_bit(opcode),
         39 => MUL, // 1001_11rd_dddd_rrrr
         44 | 45 => IN, // 1011_0AAd_dddd_AAAA
         46 | 47 => OUT, // 1011_1AAr_rrrr_AAAA
-        48..=51 => RJMP, // 1100_kkkk_kkkk_kkkk
-        52..=55 => RCALL, // 1101_kkkk_kkkk_kkkk
-        56..=59 => LDI, // 1110_KKKK_dddd_KKKK
+        48 | 49 | 50 | 51 => RJMP, // 1100_kkkk_kkkk_kkkk
+        52 | 53 | 54 | 55 => RCALL, // 1101_kkkk_kkkk_kkkk
+        56 | 57 | 58 | 59 => LDI, // 1110_KKKK_dddd_KKKK
         60 => BRBS, // 1111_00kk_kkkk_ksss
         61 => BRBC, // 1111_01kk_kkkk_ksss
         62 => bld_or_bst(opcode),
