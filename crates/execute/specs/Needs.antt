@@ -1,5 +1,5 @@
 -- 01's table, refusals 1 to 4: what an instruction needs, of a core whose PC is behind its first word.
-use Rattle.std.specs.Prelude.{ℕ, ◌+◌, Bool, true, false, ◌&&◌, List, length, ◌==◌, nat_le, nat_lt, Result, Ok, Err, ⊤}
+use Rattle.std.specs.Prelude.{ℕ, ◌+◌, Bool, true, false, ◌&&◌, List, length, ◌==◌, nat_le, nat_lt, Result, Ok, Err}
 use Rattle.std.specs.Bool.{beq}
 use Rattle.basis.specs.Pick.{pick}
 use Rattle.basis.specs.Bit.{one, bit, up}
@@ -26,16 +26,16 @@ abbrev pub refusal : Needs → ℕ
 refusal n = pick n.program (pick n.room (pick n.stack (pick n.bytes 0 4) 3) 2) 1
 
 -- the table's number of each: 1 "isn't wholly in program", 2 "PC 65,534", 3 "SP below 2; SP above 65,533", 4 "a data byte needed isn't in data"
-abbrev pub number_of_lack : Lack → ℕ
-number_of_lack Program = 1
-number_of_lack Room = 2
-number_of_lack Stack = 3
-number_of_lack Data = 4
+abbrev pub lack_number : Lack → ℕ
+lack_number Program = 1
+lack_number Room = 2
+lack_number Stack = 3
+lack_number Data = 4
 
 -- and 0 where nothing is lacking
-abbrev pub lacking : Result ⊤ Lack → ℕ
-lacking (Ok t) = 0
-lacking (Err l) = number_of_lack l
+abbrev pub said_lack : Result Unit Lack → ℕ
+said_lack (Ok t) = 0
+said_lack (Err l) = lack_number l
 
 -- ---- what several instructions need
 abbrev pub nothing : Needs

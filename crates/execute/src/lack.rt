@@ -9,8 +9,8 @@ ghost use Rattle.cores.specs.Flow.{two_at, data_bit_is};
 ghost use Rattle.cores.specs.Transfer.{reach_of};
 ghost use Rattle.execute.specs.Execute.{behind};
 ghost use Rattle.execute.specs.Needs.{
-  number_of_lack,
-  lacking,
+  lack_number,
+  said_lack,
   refusal,
   byte,
   program_byte,
@@ -24,7 +24,7 @@ ghost use Rattle.execute.specs.Needs.{
 };
 
 use cores::{Core, pointer};
-use instruction::Instruction;
+use instruction::Instruction::{self, *};
 
 // 01's refusals 1 to 4.
 #[derive(Clone, Copy, Debug, PartialEq, Eq)]
@@ -36,7 +36,7 @@ pub enum Lack {
 }
 
 impl From<Lack> for u8 {
-    ghost from_gives = { λ lack n. n ≡ number_of_lack lack };
+    ghost from_gives = { λ lack n. n ≡ lack_number lack };
 
     fn from(lack: Lack) -> u8 {
         match lack {
@@ -49,7 +49,7 @@ impl From<Lack> for u8 {
 }
 
 fn lowest(program: bool, room: bool, stack: bool, bytes: bool) -> Result<(), Lack>
-    ensures { lacking result ≡ refusal (record { program = program; room = room; stack = stack; bytes = bytes }) }
+    ensures { said_lack result ≡ refusal (record { program = program; room = room; stack = stack; bytes = bytes }) }
 {
     if !program {
         return Err(Lack::Program);
@@ -65,14 +65,14 @@ fn lowest(program: bool, room: bool, stack: bool, bytes: bool) -> Result<(), Lac
 
 // A byte of data: CBI, SBI.
 fn byte_refusal(A: u8, data: &[u8]) -> Result<(), Lack>
-    ensures { lacking result ≡ refusal (byte (has_of «data».now A)) }
+    ensures { said_lack result ≡ refusal (byte (has_of «data».now A)) }
 {
     lowest(true, true, true, memory::has(data, A as usize))
 }
 
 // An address that SREG and SP have a part in: IN, OUT, PUSH, POP.
 fn space_refusal(address: u16, data: &[u8]) -> Result<(), Lack>
-    ensures { lacking result ≡ refusal (byte (reach_of address (length «data».now))) }
+    ensures { said_lack result ≡ refusal (byte (reach_of address (length «data».now))) }
 {
     lowest(
         true,
@@ -84,7 +84,7 @@ fn space_refusal(address: u16, data: &[u8]) -> Result<(), Lack>
 
 // The same by a pointer: LD and ST.
 fn pointer_refusal(core: Core, pointer: u8, q: u8, dec: bool, data: &[u8]) -> Result<(), Lack>
-    ensures { lacking result ≡ refusal (at_pointer core pointer q dec «data».now) }
+    ensures { said_lack result ≡ refusal (at_pointer core pointer q dec «data».now) }
 {
     let address = core.pointed(pointer, dec) as usize + q as usize;
     lowest(true, true, true, cores::in_data_space(address, data))
@@ -92,7 +92,7 @@ fn pointer_refusal(core: Core, pointer: u8, q: u8, dec: bool, data: &[u8]) -> Re
 
 // The same by the second word, which PC has to pass: LDS, STS.
 fn second_refusal(core: Core, address: u16, data: &[u8]) -> Result<(), Lack>
-    ensures { lacking result ≡ refusal (second_needs core address «data».now) }
+    ensures { said_lack result ≡ refusal (second_needs core address «data».now) }
 {
     lowest(
         true,
@@ -104,7 +104,7 @@ fn second_refusal(core: Core, address: u16, data: &[u8]) -> Result<(), Lack>
 
 // The program's byte at Z: LPM.
 fn lpm_refusal(core: Core, program: &[u8]) -> Result<(), Lack>
-    ensures { lacking result ≡ refusal (program_byte (has_of program.now (word core 30))) }
+    ensures { said_lack result ≡ refusal (program_byte (has_of program.now (word core 30))) }
 {
     let address = core.get_register_word(pointer::Z);
     lowest(memory::has(program, address as usize), true, true, true)
@@ -112,7 +112,7 @@ fn lpm_refusal(core: Core, program: &[u8]) -> Result<(), Lack>
 
 // A word pushed: entry, RCALL, ICALL.
 pub fn push_refusal(core: Core, data: &[u8]) -> Result<(), Lack>
-    ensures { lacking result ≡ refusal (push_needs core «data».now) }
+    ensures { said_lack result ≡ refusal (push_needs core «data».now) }
 {
     lowest(
         true,
@@ -124,7 +124,7 @@ pub fn push_refusal(core: Core, data: &[u8]) -> Result<(), Lack>
 
 // A word pushed that is PC behind the second word.
 fn call_refusal(core: Core, data: &[u8]) -> Result<(), Lack>
-    ensures { lacking result ≡ refusal (call_needs core «data».now) }
+    ensures { said_lack result ≡ refusal (call_needs core «data».now) }
 {
     lowest(
         true,
@@ -136,7 +136,7 @@ fn call_refusal(core: Core, data: &[u8]) -> Result<(), Lack>
 
 // A word popped: RET, RETI.
 fn pop_refusal(core: Core, data: &[u8]) -> Result<(), Lack>
-    ensures { lacking result ≡ refusal (pop_needs core «data».now) }
+    ensures { said_lack result ≡ refusal (pop_needs core «data».now) }
 {
     lowest(
         true,
@@ -150,18 +150,19 @@ fn pop_refusal(core: Core, data: &[u8]) -> Result<(), Lack>
 fn skip_has_room(core: Core, program: &[u8]) -> bool
     ensures { result ≡ nat_lt (core.pc + one (two_at decode_of core program.now)) 65535 }
 {
-    if core.pc < 65534 {
+    let pc = core.pc as u32;
+    if pc < 65534 {
         return true;
     }
-    let opcode = memory::get_progmem(program, core.pc as u32);
-    let prefetch = memory::get_progmem(program, core.pc as u32 + 1);
+    let opcode = memory::get_progmem(program, pc);
+    let prefetch = memory::get_progmem(program, pc + 1);
     let two = Instruction::decode(opcode, prefetch).two_words();
-    core.pc as u32 + (two as u32) < 65535
+    pc + (two as u32) < 65535
 }
 
 // The word to be skipped, where the skip is taken; `there`: its own data byte.
 fn skip_refusal(core: Core, taken: bool, program: &[u8], there: bool) -> Result<(), Lack>
-    ensures { lacking result ≡ refusal (skip_needs decode_of core taken program.now there) }
+    ensures { said_lack result ≡ refusal (skip_needs decode_of core taken program.now there) }
 {
     if taken {
         let room = skip_has_room(core, program);
@@ -172,7 +173,7 @@ fn skip_refusal(core: Core, taken: bool, program: &[u8], there: bool) -> Result<
 }
 
 fn cpse_refusal(core: Core, d: u8, r: u8, program: &[u8]) -> Result<(), Lack>
-    ensures { lacking result ≡ refusal (skip_needs decode_of core (reg core d == reg core r) program.now true) }
+    ensures { said_lack result ≡ refusal (skip_needs decode_of core (reg core d == reg core r) program.now true) }
 {
     skip_refusal(
         core,
@@ -190,7 +191,7 @@ fn sbix_refusal(
     program: &[u8],
     data: &[u8],
 ) -> Result<(), Lack>
-    ensures { lacking result ≡ refusal (skip_needs decode_of core (data_bit_is «data».now A b set) program.now (has_of «data».now A)) }
+    ensures { said_lack result ≡ refusal (skip_needs decode_of core (data_bit_is «data».now A b set) program.now (has_of «data».now A)) }
 {
     let there = memory::has(data, A as usize);
     let bitval = basis::bit(memory::read(data, A as usize), b);
@@ -198,7 +199,7 @@ fn sbix_refusal(
 }
 
 fn sbrx_refusal(core: Core, r: u8, b: u8, set: bool, program: &[u8]) -> Result<(), Lack>
-    ensures { lacking result ≡ refusal (skip_needs decode_of core (beq (bit (reg core r) b) set) program.now true) }
+    ensures { said_lack result ≡ refusal (skip_needs decode_of core (beq (bit (reg core r) b) set) program.now true) }
 {
     let bitval = basis::bit(core.get_register(r), b);
     skip_refusal(core, bitval == set, program, true)
@@ -206,82 +207,37 @@ fn sbrx_refusal(core: Core, r: u8, b: u8, set: bool, program: &[u8]) -> Result<(
 
 #[tactic(auto, unfolding(crate::specs::Execute::behind, cores::specs::State::with_pc, cores::specs::State::with_inhibit, cores::specs::Transfer::pointed_of))]
 pub fn refusal(core: Core, op: Instruction, program: &[u8], data: &[u8]) -> Result<(), Lack>
-    ensures { lacking result ≡ refusal (needs decode_of (behind core) op program.now «data».now) }
+    ensures { said_lack result ≡ refusal (needs decode_of (behind core) op program.now «data».now) }
 {
     match op {
-        Instruction::CALL { .. } => call_refusal(crate::behind(core), data),
-        Instruction::CBI { A, .. } | Instruction::SBI { A, .. } => byte_refusal(A, data),
-        Instruction::CPSE { d, r } => cpse_refusal(crate::behind(core), d, r, program),
-        Instruction::ICALL | Instruction::RCALL { .. } => push_refusal(core, data),
-        Instruction::IN { A, .. } | Instruction::OUT { A, .. } => space_refusal(A as u16, data),
-        Instruction::LDX { .. }
-        | Instruction::LDXinc { .. }
-        | Instruction::STX { .. }
-        | Instruction::STXinc { .. } => pointer_refusal(core, pointer::X, 0, false, data),
-        Instruction::LDXdec { .. } | Instruction::STXdec { .. } => pointer_refusal(
+        CALL { .. } => call_refusal(crate::behind(core), data),
+        CBI { A, .. } | SBI { A, .. } => byte_refusal(A, data),
+        CPSE { d, r } => cpse_refusal(crate::behind(core), d, r, program),
+        ICALL | RCALL { .. } => push_refusal(core, data),
+        IN { A, .. } | OUT { A, .. } => space_refusal(A as u16, data),
+        LDX { .. } | LDXinc { .. } | STX { .. } | STXinc { .. } => pointer_refusal(
             core,
             pointer::X,
             0,
-            true,
-            data,
-        ),
-        Instruction::LDYinc { .. } | Instruction::STYinc { .. } => pointer_refusal(
-            core,
-            pointer::Y,
-            0,
             false,
             data,
         ),
-        Instruction::LDYdec { .. } | Instruction::STYdec { .. } => pointer_refusal(
-            core,
-            pointer::Y,
-            0,
-            true,
-            data,
-        ),
-        Instruction::LDZinc { .. } | Instruction::STZinc { .. } => pointer_refusal(
-            core,
-            pointer::Z,
-            0,
-            false,
-            data,
-        ),
-        Instruction::LDZdec { .. } | Instruction::STZdec { .. } => pointer_refusal(
-            core,
-            pointer::Z,
-            0,
-            true,
-            data,
-        ),
-        Instruction::LDDY { q, .. } | Instruction::STDY { q, .. } => pointer_refusal(
-            core,
-            pointer::Y,
-            q,
-            false,
-            data,
-        ),
-        Instruction::LDDZ { q, .. } | Instruction::STDZ { q, .. } => pointer_refusal(
-            core,
-            pointer::Z,
-            q,
-            false,
-            data,
-        ),
-        Instruction::LDS { k, .. } | Instruction::STS { k, .. } => second_refusal(
-            crate::behind(core),
-            k,
-            data,
-        ),
-        Instruction::LPM | Instruction::LPMZ { .. } | Instruction::LPMZinc { .. } => lpm_refusal(
-            core, program,
-        ),
-        Instruction::POP { .. } => space_refusal(core.sp.wrapping_add(1), data),
-        Instruction::PUSH { .. } => space_refusal(core.sp, data),
-        Instruction::RET | Instruction::RETI => pop_refusal(core, data),
-        Instruction::SBIC { A, b } => sbix_refusal(crate::behind(core), A, b, false, program, data),
-        Instruction::SBIS { A, b } => sbix_refusal(crate::behind(core), A, b, true, program, data),
-        Instruction::SBRC { r, b } => sbrx_refusal(crate::behind(core), r, b, false, program),
-        Instruction::SBRS { r, b } => sbrx_refusal(crate::behind(core), r, b, true, program),
+        LDXdec { .. } | STXdec { .. } => pointer_refusal(core, pointer::X, 0, true, data),
+        LDYinc { .. } | STYinc { .. } => pointer_refusal(core, pointer::Y, 0, false, data),
+        LDYdec { .. } | STYdec { .. } => pointer_refusal(core, pointer::Y, 0, true, data),
+        LDZinc { .. } | STZinc { .. } => pointer_refusal(core, pointer::Z, 0, false, data),
+        LDZdec { .. } | STZdec { .. } => pointer_refusal(core, pointer::Z, 0, true, data),
+        LDDY { q, .. } | STDY { q, .. } => pointer_refusal(core, pointer::Y, q, false, data),
+        LDDZ { q, .. } | STDZ { q, .. } => pointer_refusal(core, pointer::Z, q, false, data),
+        LDS { k, .. } | STS { k, .. } => second_refusal(crate::behind(core), k, data),
+        LPM | LPMZ { .. } | LPMZinc { .. } => lpm_refusal(core, program),
+        POP { .. } => space_refusal(core.sp.wrapping_add(1), data),
+        PUSH { .. } => space_refusal(core.sp, data),
+        RET | RETI => pop_refusal(core, data),
+        SBIC { A, b } => sbix_refusal(crate::behind(core), A, b, false, program, data),
+        SBIS { A, b } => sbix_refusal(crate::behind(core), A, b, true, program, data),
+        SBRC { r, b } => sbrx_refusal(crate::behind(core), r, b, false, program),
+        SBRS { r, b } => sbrx_refusal(crate::behind(core), r, b, true, program),
         _ => Ok(()),
     }
 }

@@ -6,7 +6,7 @@ use Rattle.instruction.specs.Decode.{decode_of}
 use Rattle.cores.specs.declared.Core.{Core}
 use Rattle.cores.specs.State.{Out, out, with_busy, with_inhibit}
 use Rattle.cores.specs.Flow.{op_at}
-use Rattle.execute.specs.Needs.{number_of_lack, refusal, push_needs, needs, fetched, with_fetch}
+use Rattle.execute.specs.Needs.{lack_number, refusal, push_needs, needs, fetched, with_fetch}
 use Rattle.execute.specs.Execute.{behind, executed, effect_of, done_of}
 use Rattle.execute.specs.declared.lack.Lack.{Lack}
 use Rattle.tick.specs.Offer.{Offer}
@@ -22,9 +22,9 @@ abbrev pub granted : ℕ → Plan → Plan
 granted n plan = pick (eqb n 0) plan (Refuse n)
 
 -- a plan, or what is lacking, by its number
-abbrev pub planned : Result Plan Lack → Plan
-planned (Ok plan) = plan
-planned (Err l) = Refuse (number_of_lack l)
+abbrev pub said_plan : Result Plan Lack → Plan
+said_plan (Ok plan) = plan
+said_plan (Err l) = Refuse (lack_number l)
 
 -- step 5: "Fetch, decode"
 unfoldable pub step_plan : Core → List ℕ → List ℕ → Plan

@@ -1,7 +1,7 @@
 // The first operation: what is to be done, by core, program, data and offer. Nothing is written.
 ghost use Rattle.std.specs.Prelude.{◌≡◌};
 ghost use Rattle.tick.specs.Tick.{due};
-ghost use Rattle.tick.specs.Plan.{planned, step_plan, entry_or_step, plan_of};
+ghost use Rattle.tick.specs.Plan.{said_plan, step_plan, entry_or_step, plan_of};
 
 use crate::{Plan, words};
 use cores::Core;
@@ -25,7 +25,7 @@ fn due(core: Core, offer: Option<u16>) -> Option<u16>
 // The instruction at PC, where its words and all that it needs are there.
 #[tactic(auto, unfolding(crate::specs::Plan::step_plan))]
 fn step(core: Core, program: &[u8], data: &[u8]) -> Result<Plan, Lack>
-    ensures { planned result ≡ step_plan core program.now «data».now }
+    ensures { said_plan result ≡ step_plan core program.now «data».now }
 {
     let op = words::fetch(program, core.pc);
     if !words::has_words(op, program, core.pc) {
@@ -38,7 +38,7 @@ fn step(core: Core, program: &[u8], data: &[u8]) -> Result<Plan, Lack>
 // The entry into an interrupt that is due, or else the step. Terminate if PC overflows to prevent program from restarting
 #[tactic(auto, unfolding(crate::specs::Plan::entry_or_step))]
 fn enter_or_step(core: Core, program: &[u8], data: &[u8], due: Option<u16>) -> Result<Plan, Lack>
-    ensures { planned result ≡ entry_or_step core program.now «data».now due }
+    ensures { said_plan result ≡ entry_or_step core program.now «data».now due }
 {
     match due {
         Some(vector) => {
