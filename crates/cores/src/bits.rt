@@ -8,12 +8,12 @@ use crate::Core;
 use crate::lent::bits;
 
 impl Core {
-    pub fn asr(mut self, d: u8) -> Core
+    pub fn asr(self, d: u8) -> Core
         ensures { result ≡ asr_of self d }
     {
-        let sreg = self.sreg;
-        self.sreg = bits::asr(&mut self.regs, d, sreg);
-        self
+        let Core { mut regs, sreg, .. } = self;
+        let sreg = bits::asr(&mut regs, d, sreg);
+        Core { regs, sreg, ..self }
     }
 
     pub fn bclr(self, b: u8) -> Core
@@ -22,12 +22,12 @@ impl Core {
         self.set_sreg_bit(b, false)
     }
 
-    pub fn bld(mut self, d: u8, b: u8) -> Core
+    pub fn bld(self, d: u8, b: u8) -> Core
         ensures { result ≡ bld_of self d b }
     {
-        let sreg = self.sreg;
-        bits::bld(&mut self.regs, d, b, sreg);
-        self
+        let Core { mut regs, sreg, .. } = self;
+        bits::bld(&mut regs, d, b, sreg);
+        Core { regs, ..self }
     }
 
     // Under chip the instruction behind SEI is safe, as the one behind RETI is.
@@ -40,11 +40,12 @@ impl Core {
         k
     }
 
-    pub fn bst(mut self, d: u8, bit: u8) -> Core
+    pub fn bst(self, d: u8, bit: u8) -> Core
         ensures { result ≡ bst_of self d bit }
     {
-        self.sreg = bits::bst(&self.regs, d, bit, self.sreg);
-        self
+        let Core { regs, sreg, .. } = self;
+        let sreg = bits::bst(&regs, d, bit, sreg);
+        Core { sreg, ..self }
     }
 
     // A is below 32, so the Rust's cases for SREG and SP are never reached.
@@ -55,20 +56,20 @@ impl Core {
         self
     }
 
-    pub fn lsr(mut self, d: u8) -> Core
+    pub fn lsr(self, d: u8) -> Core
         ensures { result ≡ lsr_of self d }
     {
-        let sreg = self.sreg;
-        self.sreg = bits::lsr(&mut self.regs, d, sreg);
-        self
+        let Core { mut regs, sreg, .. } = self;
+        let sreg = bits::lsr(&mut regs, d, sreg);
+        Core { regs, sreg, ..self }
     }
 
-    pub fn ror(mut self, d: u8) -> Core
+    pub fn ror(self, d: u8) -> Core
         ensures { result ≡ ror_of self d }
     {
-        let sreg = self.sreg;
-        self.sreg = bits::ror(&mut self.regs, d, sreg);
-        self
+        let Core { mut regs, sreg, .. } = self;
+        let sreg = bits::ror(&mut regs, d, sreg);
+        Core { regs, sreg, ..self }
     }
 
     pub fn sbi(self, A: u8, b: u8, data: &mut [u8]) -> Core
@@ -78,10 +79,11 @@ impl Core {
         self
     }
 
-    pub fn swap(mut self, d: u8) -> Core
+    pub fn swap(self, d: u8) -> Core
         ensures { result ≡ swap_of self d }
     {
-        bits::swap(&mut self.regs, d);
-        self
+        let Core { mut regs, .. } = self;
+        bits::swap(&mut regs, d);
+        Core { regs, ..self }
     }
 }

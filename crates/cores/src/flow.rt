@@ -84,19 +84,21 @@ impl Core {
         self.cpi(d, self.get_register(r))
     }
 
-    pub fn cpc(mut self, d: u8, r: u8) -> Core
+    pub fn cpc(self, d: u8, r: u8) -> Core
         ensures { result ≡ cpc_of self d (reg self r) }
     {
         let Rr = self.get_register(r);
-        self.sreg = flow::cpc(&self.regs, d, Rr, self.sreg);
-        self
+        let Core { regs, sreg, .. } = self;
+        let sreg = flow::cpc(&regs, d, Rr, sreg);
+        Core { sreg, ..self }
     }
 
-    pub fn cpi(mut self, d: u8, K: u8) -> Core
+    pub fn cpi(self, d: u8, K: u8) -> Core
         ensures { result ≡ cp_of self d K }
     {
-        self.sreg = flow::cp(&self.regs, d, K, self.sreg);
-        self
+        let Core { regs, sreg, .. } = self;
+        let sreg = flow::cp(&regs, d, K, sreg);
+        Core { sreg, ..self }
     }
 
     // Over the instruction at PC, of one word or of two.

@@ -101,11 +101,12 @@ impl Core {
         }
     }
 
-    // A register's byte, and 0 above 31.
+    // A register's byte, and 0 above 31. Where `self.regs` itself is lent, a tick over `Core` takes up to 13 instructions more.
     pub fn get_register(self, register: u8) -> u8
         ensures { result ≡ reg self register }
     {
-        memory::read(&self.regs, register as usize)
+        let Core { regs, .. } = self;
+        memory::read(&regs, register as usize)
     }
 
     // A byte into a register; above 31 nothing changes.
@@ -119,7 +120,8 @@ impl Core {
     pub fn get_register_word(self, low: u8) -> u16
         ensures { result ≡ word self low }
     {
-        memory::read_word(&self.regs, low as usize)
+        let Core { regs, .. } = self;
+        memory::read_word(&regs, low as usize)
     }
 
     pub fn set_register_word(mut self, low: u8, value: u16) -> Core

@@ -17,6 +17,7 @@ pub fn read(bytes: &[u8], address: usize) -> u8
     bytes.get(address).copied().unwrap_or(0)
 }
 
+// By `get_mut` the proof of what a refused write leaves did not close.
 pub fn write(bytes: &mut [u8], address: usize, value: u8)
     ensures { bytes.new ≡ set bytes.old address value }
 {
