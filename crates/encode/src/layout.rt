@@ -1,4 +1,5 @@
-// Where the fields of an instruction stand in its word, a function a layout. An opcode comes with 0 for its fields, and each layout asks for as much room above it as its own fields take.
+// Where the fields of an instruction stand in its word, a function a layout, with the manual's picture of it. An opcode comes with 0 for its fields.
+// How far the fields reach above the opcode differs by layout, so no type says it for all: each asks for its own room.
 ghost use Rattle.std.specs.Prelude.{◌≡◌, ◌+◌, ◌<◌};
 ghost use Rattle.encode.specs.Encode.{
   said,

@@ -18,8 +18,8 @@ pub enum Words {
 
 #[derive(Clone, Copy, Debug, PartialEq, Eq)]
 pub enum Refusal {
-    Outside, // an operand outside its field
-    NoEncoding, // UNDEF and LSL, whatever their operands
+    Outside, // 33: an operand outside its field
+    NoEncoding, // 34: UNDEF and LSL, whatever their operands
 }
 
 // One match, an arm an instruction, in the order of the enum: its layout, and its pattern with 0 for the letters.

@@ -1,4 +1,5 @@
 // What a mark leads to: the forms of the words that share high byte and low nibble with words of another form, by bits 7 to 4.
+// `decode` has tables with the same keys, of instructions: one function for both would take every answer as a parameter.
 ghost use Rattle.std.specs.Prelude.{◌≡◌, ◌%◌};
 ghost use Rattle.instruction.specs.Decode.{look, mulsu_to_fmulsu_of, control_of, indirect_of};
 ghost use Rattle.forms.specs.Forms.{form, control_or_indirect, further_of};

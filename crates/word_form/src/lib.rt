@@ -11,7 +11,7 @@ use forms::form::*;
 
 mod second;
 
-// By the six highest bits, of which the compiler makes a jump table.
+// By the six highest bits. Each key has an arm of its own: with ranges or or-patterns, which were tried, a tick of crates/run takes 2 to 4 instructions more.
 #[tactic(auto, unfolding(instruction::specs::Decode::decode_of, instruction::specs::Decode::nop_to_add_of, instruction::specs::Decode::cpse_to_adc_of, instruction::specs::Decode::and_to_mov_of, instruction::specs::Decode::immediate_of, instruction::specs::Decode::port_of, instruction::specs::Decode::relative_of, instruction::specs::Decode::branch_or_bit_of))]
 pub fn form_of(opcode: u16) -> u8
     ensures { result ≡ form_of opcode }
@@ -29,21 +29,54 @@ pub fn form_of(opcode: u16) -> u8
         9 => EOR, // 0010_01rd_dddd_rrrr
         10 => OR, // 0010_10rd_dddd_rrrr
         11 => MOV, // 0010_11rd_dddd_rrrr
-        12 | 13 | 14 | 15 => CPI, // 0011_KKKK_dddd_KKKK
-        16 | 17 | 18 | 19 => SBCI, // 0100_KKKK_dddd_KKKK
-        20 | 21 | 22 | 23 => SUBI, // 0101_KKKK_dddd_KKKK
-        24 | 25 | 26 | 27 => ORI, // 0110_KKKK_dddd_KKKK
-        28 | 29 | 30 | 31 => ANDI, // 0111_KKKK_dddd_KKKK
-        32 | 33 | 34 | 35 | 40 | 41 | 42 | 43 => displaced(opcode),
+        12 => CPI, // 0011_KKKK_dddd_KKKK
+        13 => CPI,
+        14 => CPI,
+        15 => CPI,
+        16 => SBCI, // 0100_KKKK_dddd_KKKK
+        17 => SBCI,
+        18 => SBCI,
+        19 => SBCI,
+        20 => SUBI, // 0101_KKKK_dddd_KKKK
+        21 => SUBI,
+        22 => SUBI,
+        23 => SUBI,
+        24 => ORI, // 0110_KKKK_dddd_KKKK
+        25 => ORI,
+        26 => ORI,
+        27 => ORI,
+        28 => ANDI, // 0111_KKKK_dddd_KKKK
+        29 => ANDI,
+        30 => ANDI,
+        31 => ANDI,
+        32 => displaced(opcode),
+        33 => displaced(opcode),
+        34 => displaced(opcode),
+        35 => displaced(opcode),
         36 => load_or_store(opcode),
         37 => one_register_or_word(opcode),
         38 => port_bit(opcode),
         39 => MUL, // 1001_11rd_dddd_rrrr
-        44 | 45 => IN, // 1011_0AAd_dddd_AAAA
-        46 | 47 => OUT, // 1011_1AAr_rrrr_AAAA
-        48 | 49 | 50 | 51 => RJMP, // 1100_kkkk_kkkk_kkkk
-        52 | 53 | 54 | 55 => RCALL, // 1101_kkkk_kkkk_kkkk
-        56 | 57 | 58 | 59 => LDI, // 1110_KKKK_dddd_KKKK
+        40 => displaced(opcode),
+        41 => displaced(opcode),
+        42 => displaced(opcode),
+        43 => displaced(opcode),
+        44 => IN, // 1011_0AAd_dddd_AAAA
+        45 => IN,
+        46 => OUT, // 1011_1AAr_rrrr_AAAA
+        47 => OUT,
+        48 => RJMP, // 1100_kkkk_kkkk_kkkk
+        49 => RJMP,
+        50 => RJMP,
+        51 => RJMP,
+        52 => RCALL, // 1101_kkkk_kkkk_kkkk
+        53 => RCALL,
+        54 => RCALL,
+        55 => RCALL,
+        56 => LDI, // 1110_KKKK_dddd_KKKK
+        57 => LDI,
+        58 => LDI,
+        59 => LDI,
         60 => BRBS, // 1111_00kk_kkkk_ksss
         61 => BRBC, // 1111_01kk_kkkk_ksss
         62 => bld_or_bst(opcode),

@@ -160,7 +160,7 @@ pub(crate) fn bld_or_bst(opcode: u16) -> u8
     }
 }
 
-// 0xFC00 to 0xFFFF.
+// 0xFC00 to 0xFFFF. As `bld_or_bst`: one function for both would take the two forms as parameters, away from their patterns.
 #[tactic(auto, unfolding(instruction::specs::Decode::decode_of, instruction::specs::Decode::branch_or_bit_of, instruction::specs::Decode::register_bit_of))]
 pub(crate) fn sbrc_or_sbrs(opcode: u16) -> u8
     requires { opcode / 1024 ≡ 63 }
