@@ -22,12 +22,12 @@ impl Core {
         self.set_sreg_bit(b, false)
     }
 
-    pub fn bld(self, d: u8, b: u8) -> Core
+    pub fn bld(mut self, d: u8, b: u8) -> Core
         ensures { result ≡ bld_of self d b }
     {
-        let Core { mut regs, sreg, .. } = self;
-        bits::bld(&mut regs, d, b, sreg);
-        Core { regs, ..self }
+        let sreg = self.sreg;
+        bits::bld(&mut self.regs, d, b, sreg);
+        self
     }
 
     // Under chip the instruction behind SEI is safe, as the one behind RETI is.
@@ -79,11 +79,10 @@ impl Core {
         self
     }
 
-    pub fn swap(self, d: u8) -> Core
+    pub fn swap(mut self, d: u8) -> Core
         ensures { result ≡ swap_of self d }
     {
-        let Core { mut regs, .. } = self;
-        bits::swap(&mut regs, d);
-        Core { regs, ..self }
+        bits::swap(&mut self.regs, d);
+        self
     }
 }
