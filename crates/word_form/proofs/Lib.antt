@@ -1,2 +1,2 @@
--- `Read`: which words have a second one, and that what stands there does not change it.
+-- `Read`: which words have a second one.
 pub mod Read

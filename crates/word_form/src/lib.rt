@@ -86,7 +86,6 @@ pub fn form_of(opcode: u16) -> u8
 }
 
 // LDS and STS; JMP and CALL.
-#[tactic(auto, using(crate::proofs::Read::second_is))]
 pub fn has_second(opcode: u16) -> bool
     ensures { result ≡ two_words (decode_of opcode 0) }
 {
