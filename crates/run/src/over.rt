@@ -17,13 +17,6 @@ pub struct Over {
     pub ticks: u32,
 }
 
-// The answer of a run's last tick, and the ticks done.
-#[derive(Clone, Copy)]
-struct Last {
-    answer: Answer,
-    ticks: u32,
-}
-
 // A whole tick, by the two operations, of which `ready` and `effect` are the short form.
 fn whole(snapshot: &mut [u8], program: &[u8], data: &mut [u8], offer: Option<u16>) -> Answer
     requires { (read_of snapshot.old).refusal ≡ 0 }
@@ -83,7 +76,7 @@ fn advance(
     data: &mut [u8],
     offer: Option<u16>,
     budget: u32,
-) -> Last
+) -> Over
     requires { ((read_of snapshot.old).refusal ≡ 0) × (0 < budget) }
     ensures { Advances snapshot.old program0.now «data».old offer budget result snapshot.new «data».new }
 {
@@ -94,29 +87,23 @@ fn advance(
     loop {
         let done = stretch(snapshot, program, data, on, at, budget);
         if done == budget {
-            return Last {
-                answer: Answer::Ran,
+            return Over {
+                ended: Ended::Budget,
                 ticks: budget,
             };
         }
         let answer = whole(snapshot, program, data, offer);
-        let next = done + 1;
         if tick::refuses(answer) {
-            return Last {
-                answer,
+            return Over {
+                ended: answer.into(),
                 ticks: done,
             };
         }
-        if tick::stops(answer) {
-            return Last {
-                answer,
+        let next = done + 1;
+        if tick::stops(answer) | (next == budget) {
+            return Over {
+                ended: answer.into(),
                 ticks: next,
-            };
-        }
-        if next == budget {
-            return Last {
-                answer,
-                ticks: budget,
             };
         }
         at = next;
@@ -156,7 +143,10 @@ pub fn tick_in(
         snapshot[37] = last - 32;
         return Ok(Answer::Waited);
     }
-    Ok(advance(snapshot, program, data, offer, 1).answer)
+    if stretch(snapshot, program, data, offer.is_some(), 0, 1) == 1 {
+        return Ok(Answer::Ran);
+    }
+    Ok(whole(snapshot, program, data, offer))
 }
 
 // A run. A refused call changes no byte.
@@ -177,9 +167,5 @@ pub fn run_in(
             ticks: 0,
         });
     }
-    let last = advance(snapshot, program, data, offer, budget);
-    Ok(Over {
-        ended: last.answer.into(),
-        ticks: last.ticks,
-    })
+    Ok(advance(snapshot, program, data, offer, budget))
 }
