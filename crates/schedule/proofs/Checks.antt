@@ -2,11 +2,12 @@
 -- Assumes nothing.
 use mathlib.Core.Path.{◌≡◌, refl}
 use mathlib.Core.Bool.{Bool, true, false}
-use mathlib.Core.List.{List}
+use mathlib.Core.List.{List, ◌++◌}
 use Prim.Native.Nat.{ℕ, ◌/◌, ◌%◌, ◌≤◌}
 use native.Mathlib.Omega.{arith}
 use lib.Dec.{eqb, ltb}
-use lib.ListN.{length}
+use lib.ListN.{take, drop, length, replicate}
+use Rattle.std.proofs.Common.{length-take-le}
 use borrow.Author.Tests.{ltb-false}
 use Rattle.basis.specs.Pick.{pick}
 use Rattle.schedule.specs.Schedule.{records_of, rising, refusal_of}
@@ -27,3 +28,10 @@ module _ (l : List ℕ) (room : ℕ) (h : refusal_of l room ≡ 0) where
 
   pub passed_room : length l / 5 ≤ room
   passed_room = ltb-false room (length l / 5) (all (eqb (length l % 5) 0) (rising 0 (records_of l)) (ltb room (length l / 5)) h).1.1
+
+-- a number for each record is cleared
+pub cleared : (l e : List ℕ) → refusal_of l (length e) ≡ 0 → {n : ℕ} {z : List ℕ} → n ≡ length l / 5 → z ≡ replicate (length (take n e)) 0
+    → z ++ drop n e ≡ replicate (length l / 5) 0 ++ drop (length l / 5) e
+cleared l e h {n} many zeros =
+    let room = passed_room l (length e) h in
+    rw (zeros, many, length-take-le (length l / 5) e (omega (arith, room)))

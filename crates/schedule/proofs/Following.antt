@@ -1,6 +1,6 @@
 -- A list over a snapshot, record by record.
 -- Assumes nothing.
-use mathlib.Core.Path.{◌≡◌, refl, sym, ap, ◌∙◌}
+use mathlib.Core.Path.{◌≡◌, refl, sym, ap, subst, ◌∙◌}
 use mathlib.Core.Bool.{Bool, true, false, ◌&&◌}
 use mathlib.Core.List.{List, [], ◌∷◌, ◌++◌}
 use Prim.Native.Nat.{ℕ, zero, suc, ◌+◌, ◌-◌, ◌/◌, ◌≤◌, ◌<◌}
@@ -8,16 +8,17 @@ use native.Mathlib.Omega.{arith}
 use lib.Dec.{eqb, ltb}
 use lib.ListN.{set, drop, length, replicate, length-append, length-replicate}
 use lib.Seq.{set-append_seam}
-use borrow.Author.Tests.{eq-eqb, ne_eqb, eqb-true, eqb-false}
+use borrow.Author.Tests.{eqb-true, eqb-false}
 use Rattle.basis.specs.Bytes.{Bytes}
 use Rattle.basis.proofs.Choice.{clash, test}
 use Rattle.snapshot.specs.Snapshot.{read_of}
 use Rattle.std.specs.Prelude.{None, Result, Ok, Err}
-use Rattle.run.specs.Over.{run_in, RunsIn}
+use Rattle.snapshot.specs.declared.Unreadable.{Unreadable}
+use Rattle.run.specs.Over.{passed, over_of, answer_in, count_in, run_over, run_in, RunsIn}
 use Rattle.run.specs.declared.over.Over.{Over}
 use Rattle.schedule.specs.Schedule.{Record, record_at, records_from, records_of, rising, Scheduled, stopped, scheduled, numbers_of}
-use Rattle.schedule.specs.Follow.{Told, told, Plain, rest_from, said_run, Serves, Follows}
-use Rattle.schedule.proofs.Serving.{Quiet, ran_read, few, all_done, goes_on, ends_there}
+use Rattle.schedule.specs.Follow.{told, rest_from, said_run, Serves, Follows}
+use Rattle.schedule.proofs.Serving.{Quiet, handed, ran_read, few, plain, all_done, goes_on, ends_there}
 
 -- the numbers of the records entered before stand in front
 abbrev pub behind : List ℕ → Scheduled → Scheduled
@@ -91,9 +92,16 @@ module _ {s₀ p m₀ l : List ℕ} {from b : ℕ} {k s m e : List ℕ} {i done 
   served : rest_from b from s₀ p m₀ (records_of l) ≡ behind z.before (rest_from b done s p m (d ∷ ds))
   served = z.rest ∙ ap (λ (n : ℕ). behind z.before (rest_from b done s p m (records_from l i n))) left
 
+  -- by the record and the result as the code has them
+  served_as : {x : Record} {r a : Result ℕ Over} {s' m' : List ℕ} → Serves s p m x done b r s' m' → x ≡ d → r ≡ a → Serves s p m d done b a s' m'
+  served_as {x} {r} {a} {s'} {m'} w f g =
+      let by_record : Serves s p m d done b r s' m' = subst (λ (y : Record). Serves s p m y done b r s' m') f w in
+      subst (λ (y : Result ℕ Over). Serves s p m d done b y s' m') g by_record
+
   -- it was entered
-  pub stands_next : (t : ℕ) {s' m' : List ℕ} → Serves s p m d done b (Ok t) s' m' → Bytes s' → Bytes m' → Stands s₀ p m₀ l from b k s' m' (set e i t) (i + 1) t
-  stands_next t {s'} {m'} w bs bm =
+  pub stands_next : {x : Record} {r : Result ℕ Over} {s' m' : List ℕ} → Serves s p m x done b r s' m' → x ≡ d → {t : ℕ} → r ≡ Ok t → Bytes s' → Bytes m' → Stands s₀ p m₀ l from b k s' m' (set e i t) (i + 1) t
+  stands_next {x} {r} {s'} {m'} given f {t} g bs bm =
+      let w : Serves s p m d done b (Ok t) s' m' = served_as given f g in
       let one : i + 1 ≡ suc i = omega arith in
       let ns = z.before in
       let rest : List ℕ = replicate (length l / 5 - suc i) 0 ++ k in
@@ -114,8 +122,10 @@ module _ {s₀ p m₀ l : List ℕ} {from b : ℕ} {k s m e : List ℕ} {i done 
       }
 
   -- the run ended before
-  pub follows_ended : (x : Over) {s' m' : List ℕ} → Serves s p m d done b (Err x) s' m' → (e₀ : List ℕ) → k ≡ drop (length l / 5) e₀ → Follows s₀ p m₀ l from b e₀ x s' m' e
-  follows_ended x {s'} {m'} w e₀ kept =
+  pub follows_ended : {y : Record} {r : Result ℕ Over} {s' m' : List ℕ} → Serves s p m y done b r s' m' → y ≡ d → {x : Over} → r ≡ Err x → (e₀ : List ℕ) → k ≡ drop (length l / 5) e₀
+      → Follows s₀ p m₀ l from b e₀ x s' m' e
+  follows_ended {y} {r} {s'} {m'} given f {x} g e₀ kept =
+      let w : Serves s p m d done b (Err x) s' m' = served_as given f g in
       let ns = z.before in
       let rest : List ℕ = replicate (length l / 5 - suc i) 0 in
       let whole : rest_from b from s₀ p m₀ (records_of l) ≡ behind ns (stopped (said_run (told x) s' m') (d ∷ ds)) = served ∙ ap (behind ns) (w.rest ds rises_on) in
@@ -133,57 +143,44 @@ module _ {s₀ p m₀ l : List ℕ} {from b : ℕ} {k s m e : List ℕ} {i done 
 
 -- ---- no record is left, and what is left of the budget is run with no offer
 module _ {s₀ p m₀ l : List ℕ} {from b : ℕ} {k s m e : List ℕ} {i done : ℕ} (z : Stands s₀ p m₀ l from b k s m e i done) (end : length l / 5 ≤ i) (bp : Bytes p)
-    (a : Told) (s' m' : List ℕ) (w : RunsIn (run_in s p m None (b - done)) a.answer a.ticks s' m') where
+    {r : Result Over Unreadable} {x : Over} {s' m' : List ℕ} (is : r ≡ Ok x) (back : r ≡ passed (read_of s).refusal (over_of (run_over (b - done) s p m None)))
+    (w : RunsIn (run_in s p m None (b - done)) (answer_in r) (count_in r) s' m') where
   abbrev quiet : Quiet
-  quiet =
-      record {
-        u = b - done;
-        s = s;
-        p = p;
-        m = m;
-        s' = s';
-        m' = m';
-        a = a;
-        read = z.read;
-        snapshot_bytes = z.snapshot_bytes;
-        program_bytes = bp;
-        data_bytes = z.data_bytes;
-        runs = w;
-      }
+  quiet = handed s p m (b - done) z.read z.snapshot_bytes bp z.data_bytes is back w
 
   fits : done + (b - done) ≤ b
   fits = omega (arith, z.low)
 
-  pub count_fits : done + a.ticks ≤ b
+  pub count_fits : done + x.ticks ≤ b
   count_fits = omega (arith, z.low, few quiet)
 
-  module _ (y : Over) (plain : Plain y) (g : (told y).answer ≡ a.answer) (h : (told y).ticks ≡ done + a.ticks) where
-    abbrev x : Told
-    x = told y
+  -- the run that the code then hands back
+  abbrev over : Over
+  over = record { ended = x.ended; ticks = done + x.ticks }
 
-    spent : a.answer ≡ 24 → rest_from b done s p m [] ≡ stopped (said_run x s' m') []
-    unfolding scheduled
-    spent f =
-        let none : b - (done + a.ticks) ≡ 0 = omega (arith, all_done quiet f) in
-        goes_on quiet b done [] fits (λ _ _ _. refl) f ∙ rw (none, g, f, h)
+  spent : (told x).answer ≡ 24 → rest_from b done s p m [] ≡ stopped (said_run (told over) s' m') []
+  unfolding scheduled
+  spent f =
+      let none : b - (done + x.ticks) ≡ 0 = omega (arith, all_done quiet f) in
+      goes_on quiet b done [] fits (λ _ _ _. refl) f ∙ rw (none, f)
 
-    rest : rest_from b done s p m [] ≡ stopped (said_run x s' m') []
-    rest =
-        test (eqb a.answer 24) (λ f. spent (eqb-true a.answer 24 f))
-        λ f. ends_there quiet b done [] fits (λ _ _ _. refl) x (eqb-false a.answer 24 f) g h
+  rest : rest_from b done s p m [] ≡ stopped (said_run (told over) s' m') []
+  rest =
+      test (eqb (told x).answer 24) (λ f. spent (eqb-true (told x).answer 24 f))
+      λ f. ends_there quiet b done [] fits (λ _ _ _. refl) (told over) (eqb-false (told x).answer 24 f) refl refl
 
-    pub follows_last : (e₀ : List ℕ) → k ≡ drop (length l / 5) e₀ → Follows s₀ p m₀ l from b e₀ y s' m' e
-    follows_last e₀ kept =
-        let ns = z.before in
-        let none : length l / 5 - i ≡ 0 = omega arith in
-        let whole : rest_from b from s₀ p m₀ (records_of l) ≡ behind ns (stopped (said_run x s' m') []) =
-        z.rest ∙ ap (λ (n : ℕ). behind ns (rest_from b done s p m (records_from l i n))) none ∙ ap (behind ns) rest in
-        let long : length (ns ++ []) ≡ length l / 5 = rw length-append (omega (arith, z.many, z.few, end)) in
-        let numbers : numbers_of (rest_from b from s₀ p m₀ (records_of l)).entries e₀ ≡ (ns ++ []) ++ drop (length l / 5) e₀ =
-        ap (λ y. numbers_of y.entries e₀) whole ∙ ap (λ (n : ℕ). (ns ++ []) ++ drop n e₀) long in
-        record {
-          read = ap (λ y. y.refusal) (ran_read quiet);
-          plain = plain;
-          run = sym (ap (λ y. y.run) whole);
-          numbers = z.numbers ∙ ap (λ (n : ℕ). ns ++ (replicate n 0 ++ k)) none ∙ sym (joined ns [] k) ∙ ap (λ (y : List ℕ). (ns ++ []) ++ y) kept ∙ sym numbers;
-        }
+  pub follows_last : (e₀ : List ℕ) → k ≡ drop (length l / 5) e₀ → Follows s₀ p m₀ l from b e₀ over s' m' e
+  follows_last e₀ kept =
+      let ns = z.before in
+      let none : length l / 5 - i ≡ 0 = omega arith in
+      let whole : rest_from b from s₀ p m₀ (records_of l) ≡ behind ns (stopped (said_run (told over) s' m') []) =
+      z.rest ∙ ap (λ (n : ℕ). behind ns (rest_from b done s p m (records_from l i n))) none ∙ ap (behind ns) rest in
+      let long : length (ns ++ []) ≡ length l / 5 = rw length-append (omega (arith, z.many, z.few, end)) in
+      let numbers : numbers_of (rest_from b from s₀ p m₀ (records_of l)).entries e₀ ≡ (ns ++ []) ++ drop (length l / 5) e₀ =
+      ap (λ y. numbers_of y.entries e₀) whole ∙ ap (λ (n : ℕ). (ns ++ []) ++ drop n e₀) long in
+      record {
+        read = ap (λ y. y.refusal) (ran_read quiet);
+        plain = plain quiet;
+        run = sym (ap (λ y. y.run) whole);
+        numbers = z.numbers ∙ ap (λ (n : ℕ). ns ++ (replicate n 0 ++ k)) none ∙ sym (joined ns [] k) ∙ ap (λ (y : List ℕ). (ns ++ []) ++ y) kept ∙ sym numbers;
+      }

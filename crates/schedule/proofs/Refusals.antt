@@ -1,13 +1,13 @@
 -- What a refusal says as a number, and the number as a refusal.
 -- Assumes nothing.
-use Rattle.std.proofs.Common.{◌≡◌, refl, subst, ℕ, List, Result, Ok, Err}
+use Rattle.std.proofs.Common.{◌≡◌, ◌∙◌, refl, sym, ap, subst, ℕ, List, Result, Ok, Err}
 use Rattle.std.specs.Prelude.{eqb}
 use Rattle.basis.specs.Pick.{pick}
 use Rattle.cores.specs.declared.Core.{Core}
 use Rattle.snapshot.specs.Snapshot.{SnapshotRead, unreadable_number, said_read, read_of}
 use Rattle.snapshot.specs.declared.Unreadable.{Unreadable}
 use Rattle.snapshot.specs.declared.Unreadable.TheVariants.{Length, Busy, Spare}
-use Rattle.schedule.specs.Schedule.{refusal_of, refusal_in, unlisted_number, listed, started}
+use Rattle.schedule.specs.Schedule.{refusal_of, refusal_in, unlisted_number, said_check, listed, started}
 use Rattle.schedule.specs.declared.list.Unlisted.{Unlisted}
 use Rattle.schedule.specs.declared.list.Unlisted.TheVariants.{Whole, Rising, Room}
 use Rattle.schedule.specs.declared.Refused.TheVariants as refused
@@ -21,6 +21,16 @@ pub some_unreadable : (e : Unreadable) → unreadable_number e ≡ 0 → ⊥
 some_unreadable Length = λ h. cc
 some_unreadable Busy = λ h. cc
 some_unreadable Spare = λ h. cc
+
+-- by what the check of a list hands back
+pub list_passed : {r : Result Unit Unlisted} {n : ℕ} {x : Unit} → said_check r ≡ n → r ≡ Ok x → n ≡ 0
+list_passed e f = sym e ∙ ap said_check f
+
+pub list_refused : {r : Result Unit Unlisted} {n : ℕ} {x : Unlisted} → said_check r ≡ n → r ≡ Err x → n ≡ unlisted_number x
+list_refused e f = sym e ∙ ap said_check f
+
+pub listed_is : {A : Type 0} {n : ℕ} (x : A) → n ≡ 0 → Ok x ≡ listed n x
+listed_is x h = rw h
 
 pub unlisted_is : {A : Type 0} (e : Unlisted) (x : A) → Err e ≡ listed (unlisted_number e) x
 unlisted_is Whole x = refl

@@ -14,22 +14,27 @@ use Rattle.basis.specs.Pick.{pick}
 use Rattle.basis.specs.Bytes.{Bytes}
 use Rattle.basis.proofs.Choice.{clash}
 use Rattle.cores.specs.declared.Core.{Core}
+use Rattle.snapshot.specs.declared.Unreadable.{Unreadable}
 use Rattle.tick.specs.Tick.{Tick, number_of, refuses, stops, tick_of}
-use Rattle.std.specs.Prelude.{None}
+use Rattle.std.specs.Prelude.{None, Result, Ok}
 use Rattle.invariants.specs.Ticks.{TickNumber}
 use Rattle.invariants.proofs.Ticks.{ticks_answer_tick_numbers}
-use Rattle.snapshot.specs.Snapshot.{read_of, write_of}
+use Rattle.snapshot.specs.Snapshot.{said_read, read_of, write_of}
 use Rattle.snapshot.proofs.RoundTrips.{writing_undoes_reading}
-use Rattle.run.specs.Run.{Run, ended_number}
+use Rattle.run.specs.declared.Ended.{Ended}
+use Rattle.run.specs.declared.Ended.TheVariants as end
+use Rattle.run.specs.declared.Ran.{Ran}
+use Rattle.run.specs.Run.{Run, ended_number, ended_of}
 use Rattle.run.specs.Over.{said_by}
 use Rattle.run.specs.Over as over
 use Rattle.run.specs.declared.over.Over.{Over}
 use Rattle.run.proofs.Calls.{run_in_refused, check_told}
 use Rattle.run.proofs.Through.{too_busy_lem}
-use Rattle.schedule.specs.Schedule.{Record, records_of, rising, refusal_of, offered, Scheduled, stopped, scheduled, numbers_of, schedule_of, refusal_in, schedule_in, schedule_from, of_check}
-use Rattle.schedule.specs.Follow.{rest_from, Follows}
+use Rattle.schedule.specs.Schedule.{Record, records_of, rising, refusal_of, offered, Scheduled, stopped, scheduled, numbers_of, Schedule, schedule_of, listed, ran_of, refusal_in, schedule_in, schedule_from, of_check}
+use Rattle.schedule.specs.Follow.{Plain, rest_from, Follows}
 use Rattle.schedule.proofs.Steps.{step_by, one_tick}
 use Rattle.schedule.proofs.Following.{many_records}
+use Rattle.schedule.proofs.Refusals.{listed_is}
 
 -- ---- over a snapshot
 module _ (s p m l : List ℕ) (done b : ℕ) (e : List ℕ) where
@@ -85,6 +90,22 @@ module _ (b : ℕ) (k : Core) (p m l e : List ℕ) where
       let zeros : ℕ → List ℕ = λ n. replicate n 0 in
       of_passed g (ap (λ z. z.run) is)
       (ap (λ z. numbers_of z.entries e) is ∙ ap (λ (c : ℕ). numbers_of (zeros c) e) (many_records l 0 many) ∙ ap (λ (c : ℕ). zeros many ++ drop c e) (length-replicate many 0))
+
+  -- as the code hands it back
+  pub handed_back : refusal_of l (length e) ≡ 0 → {x : Schedule} → schedule_of b k p m l e ≡ x → {y : Ran} → y ≡ ran_of x.run → Ok y ≡ listed (refusal_of l (length e)) (ran_of (schedule_of b k p m l e).run)
+  handed_back g {x} is {y} f = ap (λ (z : Ran). Ok z) (f ∙ ap (λ z. ran_of z.run) (sym is)) ∙ listed_is (ran_of (schedule_of b k p m l e).run) g
+
+  pub busy_spent : b ≡ 0 → record { ended = end.Budget; ticks = 0; core = k } ≡ ran_of (record { answer = pick (eqb b 0) 24 5; count = 0; core = k; bytes = m })
+  busy_spent h = rw (eq-eqb b 0 h)
+
+  pub busy_refused : (b ≡ 0 → ⊥) → {n : ℕ} → n ≡ 5 → record { ended = end.Refused n; ticks = 0; core = k } ≡ ran_of (record { answer = pick (eqb b 0) 24 5; count = 0; core = k; bytes = m })
+  busy_refused z h = rw (h, ne_eqb b 0 z)
+
+  pub ran_back : (a : Over) (s' m' : List ℕ) {q : Result Core Unreadable} {k' : Core} → Plain a → said_read q ≡ read_of s' → q ≡ Ok k'
+      → record { ended = a.ended; ticks = a.ticks; core = k' } ≡ ran_of (record { answer = ended_number a.ended; count = a.ticks; core = said_by s'; bytes = m' })
+  ran_back a s' m' {q} {k'} plain f g =
+      let core : k' ≡ said_by s' = ap (λ r. r.core) (sym (ap said_read g) ∙ f) in
+      ap (λ (x : Ended). record { ended = x; ticks = a.ticks; core = k' }) plain ∙ ap (λ (z : Core). record { ended = ended_of (ended_number a.ended); ticks = a.ticks; core = z }) core
 
   -- through its snapshot
   pub of_followed : refusal_of l (length e) ≡ 0 → (s : List ℕ) → read_of s ≡ record { refusal = 0; core = k } → (a : Over) {s' m' e' : List ℕ} → Follows s p m l 0 b e a s' m' e'

@@ -1,6 +1,6 @@
 -- A scheduled run, a record at a time. s are the bytes of a snapshot, p is a program, m the bytes of data, l the bytes of a list, e the numbers lent for output, b a budget, done a number of
 -- ticks done, d a record, ds are the records behind it, a is what the code hands back; s', m' and e' are what it leaves of s, m and e.
-use Rattle.std.specs.Prelude.{◌≡◌, true, List, ◌∷◌, ℕ, suc, ◌-◌, ◌≤◌, ◌<◌, eqb, ltb, Result, Ok, Err, IfErr}
+use Rattle.std.specs.Prelude.{◌≡◌, true, List, ◌∷◌, ℕ, suc, ◌-◌, ◌≤◌, ◌<◌, ltb, Result, Ok, Err, IfErr}
 use Rattle.basis.specs.Pick.{pick}
 use Rattle.snapshot.specs.Snapshot.{read_of}
 use Rattle.run.specs.Run.{Run, ended_number, ended_of}

@@ -16,7 +16,6 @@ use Rattle.schedule.specs.declared.list.Unlisted.{Unlisted}
 use Rattle.schedule.specs.declared.list.Unlisted.TheVariants.{Whole, Rising, Room}
 use Rattle.schedule.specs.declared.Refused.{Refused}
 use Rattle.schedule.specs.declared.Refused.TheVariants as refused
-
 -- ---- the list
 -- "Each record is 40 bits, most significant first: tick number 24 bits, vector 16 bits"
 pub use Rattle.schedule.specs.declared.list.Record.{Record}

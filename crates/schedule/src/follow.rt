@@ -37,7 +37,10 @@ fn wait(
         match answer {
             Answer::Entered => return Ok(done + 1),
             Answer::Refused(_) => return Err(Over { ended, ticks: done }),
-            Answer::Break | Answer::End => return Err(Over { ended, ticks: done + 1 }),
+            Answer::Break | Answer::End => return Err(Over {
+                ended,
+                ticks: done + 1,
+            }),
             _ => {}
         }
     }
@@ -52,18 +55,18 @@ fn serve(
     snapshot: &mut [u8],
     program: &[u8],
     data: &mut [u8],
-    record: Record,
+    due: Record,
     done: u32,
     budget: u32,
 ) -> Result<u32, Over>
     requires { ((read_of snapshot.old).refusal ≡ 0) × (done ≤ budget) }
-    ensures { Serves snapshot.old program.now «data».old record done budget result snapshot.new «data».new }
+    ensures { Serves snapshot.old program.now «data».old due done budget result snapshot.new «data».new }
 {
-    let quiet = until(record.tick, done, budget);
+    let quiet = until(due.tick, done, budget);
     let Over { ended, ticks } = run::run_in(snapshot, program, data, None, quiet).unwrap();
     let ticks = done + ticks;
     match ended {
-        Ended::Budget => wait(snapshot, program, data, record.vector, ticks, budget),
+        Ended::Budget => wait(snapshot, program, data, due.vector, ticks, budget),
         _ => Err(Over { ended, ticks }),
     }
 }

@@ -75,8 +75,16 @@ pub fn run(
     let mut bytes = [0u8; 38];
     if let Err(refusal) = snapshot::write(core, &mut bytes) {
         entered[..list.len() / 5].fill(0);
-        let ended = if budget == 0 { Ended::Budget } else { Ended::Refused(refusal.into()) };
-        return Ok(Ran { ended, ticks: 0, core });
+        let ended = if budget == 0 {
+            Ended::Budget
+        } else {
+            Ended::Refused(refusal.into())
+        };
+        return Ok(Ran {
+            ended,
+            ticks: 0,
+            core,
+        });
     }
     let Over { ended, ticks } = follow::follow(&mut bytes, program, data, list, 0, budget, entered);
     let core = snapshot::read(&bytes).unwrap();
