@@ -5,7 +5,7 @@ use mathlib.Core.Bool.{Bool, true, false, ◌&&◌}
 use mathlib.Core.List.{List, [], ◌∷◌}
 use Prim.Native.Nat.{ℕ, suc, ◌+◌, ◌-◌, ◌≤◌, ◌<◌}
 use native.Mathlib.Omega.{arith}
-use native.Mathlib.Nat.{zero-add, suc-add}
+use native.Mathlib.Nat.{zero-add, sub-zero, suc-add}
 use native.Mathlib.Numerals.{add-one}
 use lib.Dec.{eqb}
 use lib.ListN.{length, drop, take, get_or, length-drop, drop_of_length-le}
@@ -150,6 +150,9 @@ first_at t at h =
 
 pub found : (t : List ℕ) (at : ℕ) (r : Line) → at < length t → r ≡ line_at t at → Found t at r.stop r.next
 found t at r h e = rw e (first_at t at h)
+
+pub first_line : (t : List ℕ) (r : Line) → 0 < length t → r ≡ line_at t 0 → lines_of t ≡ take r.stop t ∷ lines_of (drop r.next t)
+first_line t r h e = rw sub-zero at (found t 0 r h e).lines
 
 pub no_lines : (t : List ℕ) (at : ℕ) → length t ≤ at → lines_of (drop at t) ≡ []
 unfolding lines_of
