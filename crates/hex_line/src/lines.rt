@@ -11,7 +11,11 @@ pub fn end_length(text: &[u8], at: usize) -> usize
 {
     match text.get(at) {
         Some(b'\n') => 1,
-        Some(b'\r') => if text.get(at + 1) == Some(&b'\n') { 2 } else { 0 },
+        Some(b'\r') => if text.get(at + 1) == Some(&b'\n') {
+            2
+        } else {
+            0
+        },
         _ => 0,
     }
 }

@@ -1,5 +1,5 @@
 -- At the line's end, past a character that ends none, and at the text's end.
-use Rattle.std.proofs.Common.{◌≡◌, ◌+◌, ◌<◌, ◌≤◌, drop, length, arith, ◌∙◌, add-zero, refl}
+use Rattle.std.proofs.Common.{◌≡◌, ◌<◌, ◌≤◌, drop, length, arith, ◌∙◌, add-zero}
 use Rattle.hex_line.specs.Way.{end_length}
 use Rattle.hex_line.proofs.Found.{end_out, stops, stops_out, goes_on}
 use Rattle.hex_line.proofs.lines.line_at.Goals as goal

@@ -1,5 +1,5 @@
 -- The record's numbers as its line says them.
-use Rattle.hex_line.proofs.RecordBytes.{count_is, address_is, kind_is}
+use Rattle.hex_line.proofs.RecordBytes.{kind_is}
 use Rattle.hex_line.proofs.faults.Record.wrong_type.Goals as goal
 
 pub returns : goal.returns
