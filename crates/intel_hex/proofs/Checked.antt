@@ -14,8 +14,16 @@ use Rattle.hex_line.specs.Line.{lines_of, type_of, is_end, end_of, fault_of}
 use Rattle.hex_line.specs.Way.{end_length, stop_of, line_at, byte_of, Fits}
 use Rattle.hex_line.proofs.Found.{found, first_line}
 use Rattle.hex_line.proofs.RecordBytes.{count_is, count_of_part}
-use Rattle.hex_line.proofs.Judged.{never, fits}
-use Rattle.intel_hex.specs.Reading.{answer, behind_end, checked}
+use Rattle.hex_line.proofs.Judged.{never, fault_never, fits}
+use Rattle.intel_hex.specs.Reading.{answer, behind_end, checked, number_of}
+use Rattle.intel_hex.specs.declared.errors.ReadError.{ReadError}
+use Rattle.intel_hex.specs.declared.errors.ReadError.TheVariants.{Fault, End, TooLarge}
+
+-- no error has the number 0
+pub error_never : (e : ReadError) → number_of e ≡ 0 → ⊥
+error_never (Fault n fault) h = fault_never fault h
+error_never (End n) h = never 55 h
+error_never TooLarge h = never 56 h
 
 -- ---- one line more
 module _ (size n end : ℕ) (l : List ℕ) (ls : List (List ℕ)) where

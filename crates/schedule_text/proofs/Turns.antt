@@ -11,9 +11,20 @@ use Rattle.basis.specs.Pick.{pick}
 use Rattle.basis.proofs.Choice.{test}
 use Rattle.std.specs.Prelude.{Option, None, Some, Result, Ok, Err}
 use Rattle.schedule_text.specs.Reading.{Nothing, Wrong, Firing}
+use Rattle.hex_line.proofs.Judged.{never}
+use Rattle.schedule_text.specs.declared.Fault.{Fault}
+use Rattle.schedule_text.specs.declared.Fault.TheVariants.{Form, Tick, Order, Vector, Room}
 use Rattle.schedule_text.specs.declared.line.Firing.{Firing as Fired}
-use Rattle.schedule_text.specs.Reading.{Said, line_of, fault_of, Told, told, behind, read_from}
+use Rattle.schedule_text.specs.Reading.{Said, line_of, fault_of, fault_number, Told, told, behind, read_from}
 use Rattle.schedule_text.specs.Judged.{judged_of}
+
+-- no fault has the number 0
+pub fault_never : (f : Fault) → fault_number f ≡ 0 → ⊥
+fault_never Form h = never 0 h
+fault_never Tick h = never 1 h
+fault_never Order h = never 2 h
+fault_never Vector h = never 3 h
+fault_never Room h = never 4 h
 
 -- ---- a record that has no fault
 pub record Right (tick vector last room : ℕ) : Type 0 where
