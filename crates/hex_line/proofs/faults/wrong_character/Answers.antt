@@ -1,5 +1,5 @@
 -- The first character apart, then digit by digit.
-use Rattle.std.proofs.Common.{◌∙◌, rules}
+use Rattle.std.proofs.Common.{arith, ◌∙◌, rules}
 use Rattle.hex_line.specs.Line.{wrong_character, is_digit}
 use Rattle.hex_line.proofs.Characters.{no_character, next_character, last_character}
 use Rattle.hex_line.proofs.faults.wrong_character.Goals as goal
@@ -14,7 +14,8 @@ loop-c-init c = rw c.in-Some.ensures.cases.0
 pub loop-c-preserved : goal.loop-c-preserved
 unfolding is_digit
 loop-c-preserved c =
-    c.loop-c.invariant ∙ rw (next_character c.in-Some.digits.now c.loop-c.c-index c.loop-c.right (search rules), ← c.is_ascii_hexdigit-right.ensures.value)
+    let more = next_character c.in-Some.digits.now c.loop-c.c-index c.loop-c.right (search rules) in
+    grind arith
 
 pub returns : goal.returns
 returns c = rw (c.loop-c.invariant, last_character c.in-Some.digits.now c.loop-c.c-index c.loop-c.right c.loop-c-test.false)
