@@ -5,17 +5,17 @@ use mathlib.Core.Bool.{Bool, true, false, ◌&&◌}
 use mathlib.Core.List.{List, [], ◌∷◌}
 use Prim.Native.Nat.{ℕ, suc, ◌+◌, ◌-◌, ◌≤◌, ◌<◌}
 use native.Mathlib.Omega.{arith}
-use native.Mathlib.Nat.{zero-add, suc-add}
+use native.Mathlib.Nat.{zero-add, sub-zero, suc-add}
 use native.Mathlib.Numerals.{add-one}
 use lib.Dec.{eqb}
 use lib.ListN.{length, drop, take, get_or, length-drop, drop_of_length-le}
 use lib.Seq.{drop-cons, drop-drop}
 use borrow.Author.Tests.{lt-ltb, le-ltb, ne_eqb}
 use Rattle.basis.specs.Pick.{pick}
-use Rattle.basis.proofs.Choice.{clash}
+use Rattle.basis.proofs.Choice.{clash, either}
 use Rattle.basis.proofs.Both.{both_true}
 use Rattle.hex_line.specs.declared.Line.{Line}
-use Rattle.hex_line.specs.Line.{starts_lf, lines_of}
+use Rattle.hex_line.specs.Line.{starts_lf, on_first, lines_of}
 use Rattle.hex_line.specs.Way.{end_length, line_length, stop_of, line_at}
 
 -- ---- the line's end at a place
@@ -151,6 +151,23 @@ first_at t at h =
 pub found : (t : List ℕ) (at : ℕ) (r : Line) → at < length t → r ≡ line_at t at → Found t at r.stop r.next
 found t at r h e = rw e (first_at t at h)
 
+pub first_line : (t : List ℕ) (r : Line) → 0 < length t → r ≡ line_at t 0 → lines_of t ≡ take r.stop t ∷ lines_of (drop r.next t)
+first_line t r h e = rw sub-zero at (found t 0 r h e).lines
+
 pub no_lines : (t : List ℕ) (at : ℕ) → length t ≤ at → lines_of (drop at t) ≡ []
 unfolding lines_of
 no_lines t at h = rw (drop_of_length-le t {i = at} h)
+
+-- ---- a text has no more lines than characters
+first_more : (c : ℕ) (ls : List (List ℕ)) → length (on_first c ls) ≤ suc (length ls)
+first_more c [] = omega arith
+first_more c (l ∷ ls) = omega arith
+
+pub few_lines : (t : List ℕ) → length (lines_of t) ≤ length t
+unfolding lines_of
+few_lines [] = omega arith
+few_lines (c ∷ t) =
+    let few = few_lines t in
+    let more = first_more c (lines_of t) in
+    let Few : List (List ℕ) → Type 0 = λ ls. length ls ≤ suc (length t) in
+    either Few (eqb c 10) _ _ (omega arith) (either Few (eqb c 13 && starts_lf t) _ _ (omega arith) (omega arith))

@@ -18,15 +18,14 @@ pub(crate) fn put_told(
     ensures { Gains page.old (told_of budget (lent state.entry) text.now schedule.now) page.new }
 {
     let mut program = [0u8; 49152];
-    let read = intel_hex::read(text, &mut program);
-    if read.refusal != 0 {
-        return put_refusal(page, 2, read.refusal, read.line);
+    if let Err(error) = intel_hex::read(text, &mut program) {
+        return put_refusal(page, 2, error.into(), error.line());
     }
     let mut list = [0u8; 327680];
-    let listed = schedule_text::read(schedule, &mut list);
-    if listed.fault != 0 {
-        return put_refusal(page, 3, listed.fault, listed.line);
-    }
-    let end = 5 * listed.records;
+    let records = match schedule_text::read(schedule, &mut list) {
+        Ok(records) => records,
+        Err(refused) => return put_refusal(page, 3, refused.fault.into(), refused.line),
+    };
+    let end = 5 * records;
     put_run(page, state, &program, &list[..end], budget);
 }

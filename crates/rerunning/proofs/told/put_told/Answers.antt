@@ -1,12 +1,16 @@
--- The HEX text, the schedule, the run.
-use Rattle.std.proofs.Common.{◌≡◌, ◌/◌, ◌*◌, ◌≤◌, ℕ, List, length, replicate, take, sym, ap, arith}
-use lib.ListN.{length-replicate}
+-- The HEX text refused, the schedule refused, or the run.
+use Rattle.std.proofs.Common.{◌≡◌, ◌*◌, ◌/◌, ◌≤◌, ℕ, List, ◌∷◌, length, take, replicate, arith, refl, sym, ap, subst}
+use Rattle.std.proofs.lemmas.List.{length-replicate}
 use lib.Seq.{length-take-le}
-use Rattle.schedule_text.specs.Reading.{read_of}
-use Rattle.schedule_text.specs.declared.Outcome.{Outcome}
-use Rattle.rerunning.specs.Lent.{lent}
-use Rattle.rerunning.proofs.Texts.{outcome, hex_refused, list_refused, passed, few, list_taken}
+use Rattle.page.specs.Page.{page, Puts}
+use Rattle.intel_hex.specs.Reading as hex
+use Rattle.intel_hex.proofs.Checked.{error_never}
+use Rattle.schedule_text.specs.Reading.{Outcome, read_of, bytes_of, fault_number}
+use Rattle.schedule_text.proofs.Turns.{fault_never}
+use Rattle.rerunning.specs.Rerun.{State, four, told_of}
+use Rattle.rerunning.proofs.Texts.{hex_refused, list_refused, passed, few, list_taken}
 use Rattle.rerunning.proofs.told.put_told.Goals as goal
+use Rattle.rerunning.proofs.told.put_told.Goals.{In-Ok}
 
 -- the buffers as they are lent
 abbrev image : List ℕ
@@ -21,50 +25,49 @@ room = length-replicate {A = ℕ} 49152 0
 many : length blank / 5 ≡ 65536
 many = ap (λ (n : ℕ). n / 5) (length-replicate {A = ℕ} 327680 0)
 
--- what was read of a schedule: as many records, and no more than there is room for
-module _ (l : List ℕ) (q : Outcome) (is : q ≡ outcome (read_of l (length blank / 5))) where
-  counted : q.records ≡ length (read_of l (length blank / 5)).records
-  counted = ap (λ r. r.records) is
-
-  some : q.records ≤ 65536
-  some = few l (length blank / 5) q.records many counted
-
-  within : (list : List ℕ) → length list ≡ length blank → 5 * q.records ≤ length list
-  within list long = omega (arith, some, long, length-replicate {A = ℕ} 327680 0)
-
-pub returns-then-read-ne0 : goal.returns-then-read-ne0
-returns-then-read-ne0 c =
+pub returns-in-Err : goal.returns-in-Err
+returns-in-Err c =
     let a = c.args in
-    let r = c.read-read in
-    rw (← hex_refused a.budget (lent a.state) a.text.now a.schedule.now r.result (length image) room r.ensures.value c.if-read-ne0.true) c.put_refusal.ensures
+    let z : State = record { done = a.done; core = a.core.now; entered = a.entered.now; bytes = a.«data».now } in
+    let f = hex.answer (hex.number_of c.in-Err.error) (hex.line_of c.in-Err.error) in
+    let told = hex_refused a.budget z a.text.now a.schedule.now f (length image) room c.in-Err.ensures.value (error_never c.in-Err.error) in
+    let same : 2 ∷ c.into.result ∷ four c.line.result ≡ told_of a.budget z a.text.now a.schedule.now = rw (c.into.ensures, c.line.ensures) told in
+    subst (λ (t : List ℕ). Puts (page a.out.now 0) t (page c.put_refusal.new.out c.put_refusal.result)) same c.put_refusal.ensures
 
-pub returns-then-listed-ne0 : goal.returns-then-listed-ne0
-returns-then-listed-ne0 c =
+pub returns-in-Err-read : goal.returns-in-Err-read
+returns-in-Err-read c =
     let a = c.args in
-    let r = c.read-read in
-    let q = c.read-listed in
-    rw (← list_refused a.budget (lent a.state) a.text.now a.schedule.now r.result (length image) room r.ensures.value c.if-read-ne0.false
-    q.result (length blank / 5) many q.ensures.value c.if-listed-ne0.true)
-    c.put_refusal-then-listed-ne0.ensures
+    let z : State = record { done = a.done; core = a.core.now; entered = a.entered.now; bytes = a.«data».now } in
+    let x = c.in-Err-read.refused in
+    let q : Outcome = record { fault = fault_number x.fault; line = x.line; records = x.records } in
+    let told = list_refused a.budget z a.text.now a.schedule.now (hex.answer 0 0) (length image) room c.in_default.ensures.value refl q (length blank / 5) many c.in-Err-read.ensures.value (fault_never x.fault) in
+    let same : 3 ∷ c.into-in-Err-read.result ∷ four x.line ≡ told_of a.budget z a.text.now a.schedule.now = rw c.into-in-Err-read.ensures told in
+    subst (λ (t : List ℕ). Puts (page a.out.now 0) t (page c.put_refusal-in-Err-read.new.out c.put_refusal-in-Err-read.result)) same c.put_refusal-in-Err-read.ensures
+
+-- the records that are read
+some : (c : In-Ok) → c.in-Ok.records ≤ 65536
+some c = few c.args.schedule.now (length blank / 5) c.in-Ok.records many (ap (λ r. r.records) c.in-Ok.ensures.value)
+
+within : (c : In-Ok) → 5 * c.in-Ok.records ≤ length c.read-2.new.list
+within c = omega (arith, some c, c.read-2.auto.list, length-replicate {A = ℕ} 327680 0)
 
 pub overflow_mul-end : goal.overflow_mul-end
-overflow_mul-end c = let h = some c.args.schedule.now c.read-listed.result c.read-listed.ensures.value in record { fits = omega (arith, h) }
+overflow_mul-end c = let h = some c in record { fits = omega (arith, h) }
 
 pub slice_bounds-list-end : goal.slice_bounds-list-end
-slice_bounds-list-end c = let q = c.read-listed in within c.args.schedule.now q.result q.ensures.value q.new.list q.auto.list
+slice_bounds-list-end c = within (goal.at.slice_bounds-list-end c).In-Ok
 
 pub slice_bounds-put_run-end-2 : goal.slice_bounds-put_run-end-2
-slice_bounds-put_run-end-2 c =
-    let q = c.read-listed in
-    sym (length-take-le (5 * q.result.records) q.new.list (within c.args.schedule.now q.result q.ensures.value q.new.list q.auto.list))
+slice_bounds-put_run-end-2 c = sym (length-take-le (5 * c.in-Ok.records) c.read-2.new.list (within (goal.at.slice_bounds-put_run-end-2 c).In-Ok))
 
 pub returns : goal.returns
 returns c =
     let a = c.args in
-    let l = a.schedule.now in
-    let r = c.read-read in
-    let q = c.read-listed in
-    let listed = list_taken l (length blank / 5) q.result.records many (counted l q.result q.ensures.value) q.new.list blank q.ensures.list_after in
-    rw (← passed a.budget (lent a.state) a.text.now l r.result (length image) room r.ensures.value c.if-read-ne0.false
-    q.result (length blank / 5) many q.ensures.value r.new.program (take (5 * q.result.records) q.new.list) r.ensures.program_after listed c.if-listed-ne0.false)
-    c.put_run.ensures
+    let z : State = record { done = a.done; core = a.core.now; entered = a.entered.now; bytes = a.«data».now } in
+    let n = c.in-Ok.records in
+    let list = c.read-2.new.list in
+    let q : Outcome = record { fault = 0; line = 0; records = n } in
+    let counted = ap (λ r. r.records) c.in-Ok.ensures.value in
+    let listed : take (5 * n) list ≡ bytes_of (read_of a.schedule.now 65536).records = list_taken a.schedule.now (length blank / 5) n many counted list blank c.in-Ok.ensures.list_after in
+    let told = passed a.budget z a.text.now a.schedule.now (hex.answer 0 0) (length image) room c.in_default.ensures.value refl q (length blank / 5) many c.in-Ok.ensures.value c.read.new.program (take (5 * n) list) c.in_default.ensures.program_after listed refl in
+    subst (λ (t : List ℕ). Puts (page a.out.now 0) t (page c.put_run.new.out c.put_run.result)) told c.put_run.ensures
