@@ -29,22 +29,17 @@ use instruction::Instruction::{self, *};
 // 01's refusals 1 to 4.
 #[derive(Clone, Copy, Debug, PartialEq, Eq)]
 pub enum Lack {
-    Program, // a word or an LPM byte isn't wholly in program
-    Room, // PC would pass 65,535
-    Stack, // SP would leave 0 to 65,535
-    Data, // a data byte isn't in data
+    Program = 1, // a word or an LPM byte isn't wholly in program
+    Room = 2, // PC would pass 65,535
+    Stack = 3, // SP would leave 0 to 65,535
+    Data = 4, // a data byte isn't in data
 }
 
 impl From<Lack> for u8 {
     ghost from_gives = { λ lack n. n ≡ lack_number lack };
 
     fn from(lack: Lack) -> u8 {
-        match lack {
-            Lack::Program => 1,
-            Lack::Room => 2,
-            Lack::Stack => 3,
-            Lack::Data => 4,
-        }
+        lack as u8
     }
 }
 

@@ -21,15 +21,19 @@ fn after(first: Core, program: &[u8], data: &mut [u8], offer: Option<u16>, ticks
 fn main(rt: HostRuntime) -> io::Result<()> {
     let mut input = Vec::new(rt.alloc());
     rt.reader().take(4 + 131072).read_to_end(&mut input)?;
-    let high = memory::read_word(&[memory::read(&input, 1), memory::read(&input, 0)], 0) as u32;
-    let low = memory::read_word(&[memory::read(&input, 3), memory::read(&input, 2)], 0) as u32;
+    let ticks = u32::from_be_bytes([
+        memory::read(&input, 0),
+        memory::read(&input, 1),
+        memory::read(&input, 2),
+        memory::read(&input, 3),
+    ]);
     let mut data = [0u8; 16384];
     let last = after(
         Core::fresh(0),
         input.get(4..).unwrap_or(&[]),
         &mut data,
         None,
-        high * 65536 + low,
+        ticks,
     );
     println!(rt; "{} {}", last.pc, last.get_register(16))
 }
