@@ -1,53 +1,26 @@
--- What a refusal says as a number, and the number as a refusal.
+-- What the checks hand back, and their numbers.
 -- Assumes nothing.
-use Rattle.std.proofs.Common.{◌≡◌, ◌∙◌, refl, sym, ap, subst, ℕ, List, Result, Ok, Err}
-use Rattle.std.specs.Prelude.{eqb}
+use Rattle.std.proofs.Common.{◌≡◌, ◌∙◌, refl, sym, ap, subst, Bool, true, false, ℕ, zero, suc, ◌%◌, ◌/◌, List, length, get_or, Result, Ok, Err, is_ok, arith, ne_eqb}
+use Rattle.std.specs.Prelude.{eqb, leb, ltb}
 use Rattle.basis.specs.Pick.{pick}
+use Rattle.basis.proofs.Choice.{clash}
+use Rattle.run.proofs.Calls.{ok_or}
 use Rattle.cores.specs.declared.Core.{Core}
-use Rattle.snapshot.specs.Snapshot.{SnapshotRead, unreadable_number, said_read, read_of}
-use Rattle.snapshot.specs.declared.Unreadable.{Unreadable}
-use Rattle.snapshot.specs.declared.Unreadable.TheVariants.{Length, Busy, Spare}
-use Rattle.schedule.specs.Schedule.{refusal_of, refusal_in, unlisted_number, said_check, listed, started}
+use Rattle.snapshot.specs.Snapshot.{SnapshotRead, core_of, refused_read, said_read, read_of}
+use Rattle.run.specs.Over.{unreadable_of}
+use Rattle.schedule.specs.Schedule.{records_of, rising, refusal_of, refusal_in, said_check, unlisted_of, listed, refused_number, started}
 use Rattle.schedule.specs.declared.list.Unlisted.{Unlisted}
-use Rattle.schedule.specs.declared.list.Unlisted.TheVariants.{Whole, Rising, Room}
+use Rattle.schedule.specs.declared.Refused.{Refused}
 use Rattle.schedule.specs.declared.Refused.TheVariants as refused
 
-pub some_unlisted : (e : Unlisted) → unlisted_number e ≡ 0 → ⊥
-some_unlisted Whole = λ h. cc
-some_unlisted Rising = λ h. cc
-some_unlisted Room = λ h. cc
-
-pub some_unreadable : (e : Unreadable) → unreadable_number e ≡ 0 → ⊥
-some_unreadable Length = λ h. cc
-some_unreadable Busy = λ h. cc
-some_unreadable Spare = λ h. cc
-
--- by what the check of a list hands back
+-- ---- the list's
 pub list_passed : {r : Result Unit Unlisted} {n : ℕ} {x : Unit} → said_check r ≡ n → r ≡ Ok x → n ≡ 0
 list_passed e f = sym e ∙ ap said_check f
-
-pub list_refused : {r : Result Unit Unlisted} {n : ℕ} {x : Unlisted} → said_check r ≡ n → r ≡ Err x → n ≡ unlisted_number x
-list_refused e f = sym e ∙ ap said_check f
 
 pub listed_is : {A : Type 0} {n : ℕ} (x : A) → n ≡ 0 → Ok x ≡ listed n x
 listed_is x h = rw h
 
-pub unlisted_is : {A : Type 0} (e : Unlisted) (x : A) → Err e ≡ listed (unlisted_number e) x
-unlisted_is Whole x = refl
-unlisted_is Rising x = refl
-unlisted_is Room x = refl
-
-pub refused_by_list : {A : Type 0} (e : Unlisted) (x : A) → Err (refused.Unlisted e) ≡ started (unlisted_number e) x
-refused_by_list Whole x = refl
-refused_by_list Rising x = refl
-refused_by_list Room x = refl
-
-pub refused_by_snapshot : {A : Type 0} (e : Unreadable) (x : A) → Err (refused.Unreadable e) ≡ started (unreadable_number e) x
-refused_by_snapshot Length x = refl
-refused_by_snapshot Busy x = refl
-refused_by_snapshot Spare x = refl
-
--- by the snapshot, or by the list alone
+-- ---- the snapshot's, and then the list's
 module _ (s l : List ℕ) (room : ℕ) where
   abbrev by : SnapshotRead → ℕ
   by r = pick (eqb r.refusal 0) (refusal_of l room) r.refusal
@@ -55,7 +28,40 @@ module _ (s l : List ℕ) (room : ℕ) where
   pub read_passed : (k : Core) → said_read (Ok k) ≡ read_of s → refusal_in s l room ≡ refusal_of l room
   read_passed k h = subst (λ (r : SnapshotRead). by r ≡ refusal_of l room) h refl
 
-  pub read_refused : (e : Unreadable) → said_read (Err e) ≡ read_of s → refusal_in s l room ≡ unreadable_number e
-  read_refused Length h = subst (λ (r : SnapshotRead). by r ≡ 7) h refl
-  read_refused Busy h = subst (λ (r : SnapshotRead). by r ≡ 8) h refl
-  read_refused Spare h = subst (λ (r : SnapshotRead). by r ≡ 9) h refl
+-- the refusal of a number
+abbrev refusal : ℕ → Refused
+refusal n = pick (leb 30 n) (refused.Unlisted (unlisted_of n)) (refused.Unreadable (unreadable_of n))
+
+pub started_ok : {A : Type 0} (n : ℕ) (x : A) {y : A} → Ok y ≡ started n x → (n ≡ 0) × (y ≡ x)
+started_ok {A} zero x {y} h = (refl, ap (ok_or {A = A} y) h)
+started_ok (suc n) x h = let e = ne_eqb (suc n) 0 (λ z. omega (arith, z)) in clash (rw e at (ap is_ok h))
+
+abbrev err_or : {A : Type 0} → Refused → Result A Refused → Refused
+err_or d (Ok x) = d
+err_or d (Err e) = e
+
+started_err : {A : Type 0} (n : ℕ) (x : A) {e : Refused} → Err e ≡ started n x → (n ≡ 0 → ⊥) × (e ≡ refusal n)
+started_err zero x h = clash (sym (ap is_ok h))
+started_err {A} (suc n) x {e} h = let f = ne_eqb (suc n) 0 (λ z. omega (arith, z)) in (λ z. omega (arith, z), rw f at (ap (err_or {A = A} e) h))
+
+-- by the tests of both
+numbered : (u v w a b c : Bool) (k : Core)
+    → (let r : SnapshotRead = pick u (pick v (refused_read 8) (pick w (record { refusal = 0; core = k }) (refused_read 9))) (refused_read 7) in
+    let n : ℕ = pick (eqb r.refusal 0) (pick a (pick b (pick c 32 0) 31) 30) r.refusal in
+    (n ≡ 0 → ⊥) → refused_number (refusal n) ≡ n)
+numbered false v w a b c k h = refl
+numbered true true w a b c k h = refl
+numbered true false false a b c k h = refl
+numbered true false true false b c k h = refl
+numbered true false true true false c k h = refl
+numbered true false true true true true k h = refl
+numbered true false true true true false k h = absurd (h refl)
+
+-- a refusal has the number of the check that refused
+pub started_refused : (s l : List ℕ) (room : ℕ) {A : Type 0} (x : A) {e : Refused} → Err e ≡ started (refusal_in s l room) x → ((refusal_in s l room ≡ 0) → ⊥) × (refused_number e ≡ refusal_in s l room)
+started_refused s l room x h =
+    let (some, is) = started_err (refusal_in s l room) x h in (
+      some,
+      ap refused_number is
+      ∙ numbered (eqb (length s) 38) (ltb 4 (get_or s 37 0 / 32)) (eqb (get_or s 37 0 % 4) 0) (eqb (length l % 5) 0) (rising 0 (records_of l)) (ltb room (length l / 5)) (core_of s) some,
+    )

@@ -1,7 +1,7 @@
 -- 02, W5: "Field staff give us the ticks at which the sample timer fired. We want a run driven by such a list."
 -- l are the bytes of a list, i is the number of a record, from 0, d a record, ds are records, in a run those not yet entered; k is a core, p a program, m the bytes of data, s the bytes of a
 -- snapshot, e the numbers lent for output, t what a tick gives, r what a run gives, x what a scheduled run gives, n a number of 01's table or 02's.
-use Rattle.std.specs.Prelude.{Bool, true, false, ◌&&◌, ◌||◌, List, [], ◌∷◌, ◌++◌, ℕ, zero, suc, ◌+◌, ◌*◌, ◌/◌, ◌%◌, eqb, leb, ltb, get_or, drop, length, replicate, Result, Ok, Err}
+use Rattle.std.specs.Prelude.{Bool, true, false, ◌&&◌, ◌||◌, List, [], ◌∷◌, ◌++◌, ℕ, zero, suc, ◌+◌, ◌*◌, ◌/◌, ◌%◌, eqb, leb, ltb, get_or, drop, length, replicate, Result, Ok, Err, ◌==◌}
 use Rattle.basis.specs.Pick.{pick}
 use Rattle.cores.specs.declared.Core.{Core}
 use Rattle.tick.specs.Tick.{number_of, refuses, stops, tick_of}
@@ -60,7 +60,7 @@ abbrev pub unlisted_of : ℕ → Unlisted
 unlisted_of n = pick (eqb n 30) Whole (pick (eqb n 31) Rising Room)
 
 abbrev pub listed : {A : Type 0} → ℕ → A → Result A Unlisted
-listed n x = pick (eqb n 0) (Ok x) (Err (unlisted_of n))
+listed n x = pick (n == 0) (Ok x) (Err (unlisted_of n))
 
 -- ---- the run
 -- "At every tick the earliest record that is due and not yet entered is offered." It is due at its tick and at every later one
@@ -146,7 +146,7 @@ refused_number (refused.Unreadable e) = unreadable_number e
 refused_number (refused.Unlisted e) = unlisted_number e
 
 abbrev pub started : {A : Type 0} → ℕ → A → Result A Refused
-started n x = pick (eqb n 0) (Ok x) (Err (pick (leb 30 n) (refused.Unlisted (unlisted_of n)) (refused.Unreadable (unreadable_of n))))
+started n x = pick (n == 0) (Ok x) (Err (pick (leb 30 n) (refused.Unlisted (unlisted_of n)) (refused.Unreadable (unreadable_of n))))
 
 abbrev pub over_of : RunIn → Over
 over_of r = record { ended = ended_of r.answer; ticks = r.count }
