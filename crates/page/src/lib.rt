@@ -13,7 +13,7 @@ pub struct Page<'a> {
     pub at: usize,
 }
 
-impl<'a> Page<'a> {
+impl Page<'_> {
     pub fn put_byte(&mut self, b: u8)
         ensures { Gains self.old (b ∷ []) self.new }
     {

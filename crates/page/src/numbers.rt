@@ -6,7 +6,7 @@ ghost use Rattle.page.specs.Numbers.{hex2, hex4, decimal};
 
 use crate::Page;
 
-impl<'a> Page<'a> {
+impl Page<'_> {
     pub fn put_hex2(&mut self, x: u8)
         ensures { Gains self.old (hex2 x) self.new }
     {
@@ -25,11 +25,11 @@ impl<'a> Page<'a> {
     pub fn put_decimal(&mut self, x: u16)
         ensures { Gains self.old (decimal x) self.new }
     {
-        self.put_if(x >= 10000, 48 + (x / 10000 % 10) as u8);
-        self.put_if(x >= 1000, 48 + (x / 1000 % 10) as u8);
-        self.put_if(x >= 100, 48 + (x / 100 % 10) as u8);
-        self.put_if(x >= 10, 48 + (x / 10 % 10) as u8);
-        self.put_byte(48 + (x % 10) as u8);
+        self.put_if(x >= 10000, b'0' + (x / 10000 % 10) as u8);
+        self.put_if(x >= 1000, b'0' + (x / 1000 % 10) as u8);
+        self.put_if(x >= 100, b'0' + (x / 100 % 10) as u8);
+        self.put_if(x >= 10, b'0' + (x / 10 % 10) as u8);
+        self.put_byte(b'0' + (x % 10) as u8);
     }
 
     fn put_if(&mut self, on: bool, b: u8)
