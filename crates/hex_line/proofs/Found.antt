@@ -10,8 +10,7 @@ use native.Mathlib.Numerals.{add-one}
 use lib.Dec.{eqb}
 use lib.ListN.{length, drop, take, get_or, length-drop, drop_of_length-le}
 use lib.Seq.{drop-cons, drop-drop}
-use borrow.Author.Tests.{lt-ltb, le-ltb, ne_eqb}
-use Rattle.basis.specs.Pick.{pick}
+use borrow.Author.Tests.{lt-ltb, le-ltb}
 use Rattle.basis.proofs.Choice.{clash, either}
 use Rattle.basis.proofs.Both.{both_true}
 use Rattle.hex_line.specs.declared.Line.{Line}
@@ -22,39 +21,6 @@ use Rattle.hex_line.specs.Way.{end_length, line_length, stop_of, line_at}
 module _ (t : List ℕ) (i : ℕ) where
   pub end_out : length t ≤ i → end_length (drop i t) ≡ 0
   end_out h = rw (drop_of_length-le t {i = i} h)
-
-  pub end_lf : i < length t → get_or t i 0 ≡ 10 → end_length (drop i t) ≡ 1
-  end_lf h e = rw (drop-cons t i 0 h, e)
-
-  pub end_other : i < length t → (get_or t i 0 ≡ 10 → ⊥) → (get_or t i 0 ≡ 13 → ⊥) → end_length (drop i t) ≡ 0
-  end_other h e f = rw (drop-cons t i 0 h, ne_eqb (get_or t i 0) 10 e, ne_eqb (get_or t i 0) 13 f)
-
-  pub end_last : i < length t → get_or t i 0 ≡ 13 → length t ≤ i + 1 → end_length (drop i t) ≡ 0
-  end_last h e k = rw (drop-cons t i 0 h, e, drop_of_length-le t {i = suc i} (omega arith))
-
-  pub end_cr_lf : i + 1 < length t → get_or t i 0 ≡ 13 → get_or t (i + 1) 0 ≡ 10 → end_length (drop i t) ≡ 2
-  end_cr_lf h e f = rw (drop-cons t i 0 (omega arith), e, drop-cons t (suc i) 0 (omega arith), ← add-one i, f)
-
-  pub end_cr : i + 1 < length t → get_or t i 0 ≡ 13 → (get_or t (i + 1) 0 ≡ 10 → ⊥) → end_length (drop i t) ≡ 0
-  end_cr h e f = rw (drop-cons t i 0 (omega arith), e, drop-cons t (suc i) 0 (omega arith), ← add-one i, ne_eqb (get_or t (i + 1) 0) 10 f)
-
--- an end lies inside its text
-end_fits : (t : List ℕ) → end_length t ≤ length t
-end_fits [] = omega arith
-end_fits (c ∷ t) = go t (eqb c 10) (eqb c 13)
-  where
-    go : (t : List ℕ) (a b : Bool) → pick a 1 (pick (b && starts_lf t) 2 0) ≤ suc (length t)
-    go t true b = omega arith
-    go t false false = omega arith
-    go [] false true = omega arith
-    go (d ∷ t) false true = two (eqb d 10) t
-      where
-        two : (a : Bool) (t : List ℕ) → pick a 2 0 ≤ suc (suc (length t))
-        two true t = omega arith
-        two false t = omega arith
-
-pub end_inside : (t : List ℕ) (i : ℕ) → i ≤ length t → i + end_length (drop i t) ≤ length t
-end_inside t i h = let k = end_fits (drop i t) in let e = length-drop i t in omega arith
 
 -- ---- a character more
 stop_at : (t : List ℕ) → 0 < end_length t → line_length t ≡ 0

@@ -2,12 +2,12 @@
 -- Assumes nothing.
 use mathlib.Core.Path.{◌≡◌, refl, sym, ◌∙◌}
 use mathlib.Core.List.{List, [], ◌∷◌, ◌++◌, append_assoc}
-use Prim.Native.Nat.{ℕ, suc, ◌+◌, ◌*◌, ◌/◌, ◌%◌, ◌≤◌, ◌<◌}
+use Prim.Native.Nat.{ℕ, suc, ◌+◌, ◌*◌, ◌/◌, ◌%◌, ◌<◌}
 use native.Mathlib.Omega.{arith}
 use native.Mathlib.Nat.{zero-add, add-zero}
 use native.Mathlib.Numerals.{add-one}
 use lib.ListN.{length, take, get_or, set}
-use lib.Seq.{sets, take-suc, take_all, length-take-le}
+use lib.Seq.{sets, take-suc, length-take-le}
 use Rattle.std.specs.Prelude.{fold}
 use Rattle.basis.specs.Text.{hex_digit}
 use Rattle.hex_line.specs.Line.{sum_of}
@@ -37,9 +37,6 @@ pub digits_step : (p : List ℕ) (i : ℕ) (s : List ℕ) (j : ℕ) → j < leng
 digits_step p i s j h =
     let n : length (digits_of (take j s)) ≡ j * 2 = length_digits (take j s) ∙ rw (length-take-le j s (omega arith)) in
     rw (add-one j, take-suc s j 0 h, digits_append (take j s) (get_or s j 0 ∷ []), sets_append p i (digits_of (take j s)) (digits_of (get_or s j 0 ∷ [])), n)
-
-pub digits_all : (p : List ℕ) (i : ℕ) (s : List ℕ) (j : ℕ) → length s ≤ j → sets p i (digits_of (take j s)) ≡ sets p i (digits_of s)
-digits_all p i s j h = rw (take_all j s h)
 
 -- ---- the sum
 sum_append : (s t : List ℕ) → sum_of (s ++ t) ≡ sum_of s + sum_of t

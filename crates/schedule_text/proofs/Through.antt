@@ -105,13 +105,6 @@ module _ {t list₀ list : List ℕ} {left : List (List ℕ)} {n last records : 
           list_is = w.list_is;
         }
 
-    pub put_asks : (d : Fired) → Ok (Some d) ≡ judged_of (line_of line) last room → (records < length list / 5) × (d.tick < 16777216) × (d.vector < 65536)
-    put_asks d is =
-        let r = fires_right last room line d is in
-        let some = r.has_room in
-        let same = kept in
-        (omega arith, r.tick_fits, r.vector_fits)
-
     pub fired : (d : Fired) (list' : List ℕ) → Ok (Some d) ≡ judged_of (line_of line) last room → list' ≡ sets list (5 * records) (five_of (record { tick = d.tick; vector = d.vector }))
         → Through t list₀ list' (room_of list₀) ls (n + 1) d.tick (records + 1)
     fired d list' is e =

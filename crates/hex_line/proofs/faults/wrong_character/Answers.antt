@@ -1,5 +1,5 @@
 -- The first character apart, then digit by digit.
-use Rattle.std.proofs.Common.{arith, ◌∙◌, rules}
+use Rattle.std.proofs.Common.{arith, rules}
 use Rattle.hex_line.specs.Line.{wrong_character, is_digit}
 use Rattle.hex_line.proofs.Characters.{no_character, next_character, last_character}
 use Rattle.hex_line.proofs.faults.wrong_character.Goals as goal
