@@ -4,11 +4,16 @@ BEGIN {
     # a clause's form, and the law of crates/promises/specs/OneOutcome.antt by which it pins what it speaks of:
     # D is a definition over what was there before the call, r the result, x a parameter or what it points to before the call, and x′ what it points to after it
     rules["r ≡ D"] = rules["x′ ≡ D"] = "equation"
-    rules["read_said r ≡ D"] = "reads_register"
-    rules["set_said x r ≡ D"] = "sets_register"
-    rules["lacking r ≡ D"] = "lacks"
+    rules["said_register r ≡ D"] = "reads_register"
+    rules["said_set x r ≡ D"] = "sets_register"
+    rules["said_lack r ≡ D"] = "lacks"
     rules["said_read r ≡ D"] = "reads"
     rules["said r ≡ D"] = "encodes"
+    rules["number_said r ≡ D"] = "judges_line"
+    rules["read_said r ≡ D"] = "reads_hex"
+    rules["write_said r ≡ D"] = "writes_hex"
+    rules["outcome_said r ≡ D"] = "reads_schedule"
+    rules["lines_left r ≡ D"] = "yields"
     rules["Leaves D r x′"] = "leaves"
     rules["Leaves D (cored x′ r x) x′"] = "leaves_lent"
     rules["Changes D x x x x x r x′"] = "changes"
@@ -35,9 +40,14 @@ BEGIN {
     homes["Writes"] = homes["said_read"] = homes["said_write"] = "Rattle.snapshot.specs.Snapshot"
     homes["Prints"] = "Rattle.page.specs.Page"
     homes["Gains"] = "Rattle.page.specs.Gains"
-    homes["read_said"] = homes["set_said"] = "Rattle.cores.specs.State"
-    homes["lacking"] = "Rattle.execute.specs.Needs"
+    homes["said_register"] = homes["said_set"] = "Rattle.cores.specs.State"
+    homes["said_lack"] = "Rattle.execute.specs.Needs"
     homes["said"] = "Rattle.encode.specs.Encode"
+    homes["number_said"] = "Rattle.hex_line.specs.Line"
+    homes["lines_left"] = "Rattle.hex_line.specs.Left"
+    homes["read_said"] = "Rattle.intel_hex.specs.Reading"
+    homes["write_said"] = "Rattle.intel_hex.specs.Writing"
+    homes["outcome_said"] = "Rattle.schedule_text.specs.Reading"
     homes["Tells"] = homes["TellsTicks"] = "Rattle.host.specs.Host"
 }
 
@@ -132,6 +142,7 @@ function finish() {
     if (contract == "" && !broken) fault("has no ensures")
     if (head ~ /->/ && !told) fault("says nothing of its result")
     gsub(/: &mut Page<'_>/, ": \\&mut Page", head) # a buffer and a place in it, which `Gains` pins
+    gsub(/-> Lines<'a>/, "-> Lines", head) # what is left of a text, which is only read
     if (head ~ /[A-Z][A-Za-z0-9_]*<'/) fault("has a struct that holds a reference, which this tool does not read")
     lent(head)
     print "| `" crate "` | `" (type == "" ? path : type "::") name "` | `" contract "` | " laws " |"
@@ -240,7 +251,17 @@ exporting && /[;{]$/ && !/::\{$/ {
     if (!plain_export(export)) fault("an export that this tool does not read")
 }
 /^ ?(pub )?mod [a-z0-9_]+ \{/ { fault("a module in a file, which this tool does not read") }
-/^ ?pub struct [A-Za-z0-9_]+</ && !/^pub struct Page<'a> \{$/ { fault("a struct that holds a reference, which this tool does not read") }
+/^ ?pub struct [A-Za-z0-9_]+</ && !/^pub struct (Page|Lines)<'a> \{$/ { fault("a struct that holds a reference, which this tool does not read") }
+/^impl<'a> Iterator for Lines<'a> \{$/ { # its `next` is pinned by what std's trait asks of it
+    if (inside) finish()
+    name = "Iterator for Lines"
+    converting = inside = 1
+    next
+}
+converting == 1 && /^ ghost next_gives = \{ YieldsFirstRef lines_left \};$/ {
+    converting = 2
+    print "| `" crate "` | `" name "` | `YieldsFirstRef lines_left` | yields |"
+}
 /^impl From<[A-Za-z0-9_:]+> for [A-Za-z0-9_]+ \{$/ {
     if (inside) finish()
     name = $0; sub(/^impl /, "", name); sub(/ \{$/, "", name)

@@ -76,13 +76,13 @@ set_register_of k r v = pick (nat_lt r 32) (record { refusal = 0; core = with_re
 abbrev pub number_of : NoRegister → ℕ
 number_of e = 6
 
-abbrev pub read_said : Result ℕ NoRegister → RegisterRead
-read_said (Ok v) = record { refusal = 0; value = v }
-read_said (Err e) = record { refusal = number_of e; value = 0 }
+abbrev pub said_register : Result ℕ NoRegister → RegisterRead
+said_register (Ok v) = record { refusal = 0; value = v }
+said_register (Err e) = record { refusal = number_of e; value = 0 }
 
-abbrev pub set_said : Core → Result Core NoRegister → RegisterSet
-set_said k (Ok k') = record { refusal = 0; core = k' }
-set_said k (Err e) = record { refusal = number_of e; core = k }
+abbrev pub said_set : Core → Result Core NoRegister → RegisterSet
+said_set k (Ok k') = record { refusal = 0; core = k' }
+said_set k (Err e) = record { refusal = number_of e; core = k }
 
 -- ---- flags: "SREG bits 0 to 7 are C Z N V S H T I"
 abbrev pub flag : Core → ℕ → Bool

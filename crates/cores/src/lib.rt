@@ -11,9 +11,9 @@ ghost use Rattle.cores.specs.State.{
   with_sreg,
   with_chip,
   flag,
-  read_said,
+  said_register,
   read_register_of,
-  set_said,
+  said_set,
   set_register_of,
 };
 ghost use Rattle.basis.specs.Bit.{put};
@@ -86,13 +86,13 @@ impl Core {
     }
 
     pub fn read_register(self, register: u8) -> Result<u8, NoRegister>
-        ensures { read_said result ≡ read_register_of self register }
+        ensures { said_register result ≡ read_register_of self register }
     {
         self.regs.get(register as usize).copied().ok_or(NoRegister)
     }
 
     pub fn set_register(self, register: u8, value: u8) -> Result<Core, NoRegister>
-        ensures { set_said self result ≡ set_register_of self register value }
+        ensures { said_set self result ≡ set_register_of self register value }
     {
         if register < 32 {
             Ok(self.put_register(register, value))

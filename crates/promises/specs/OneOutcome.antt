@@ -2,9 +2,9 @@
 use Rattle.std.specs.Prelude.{◌≡◌, Bool, List, ℕ, Result, ⊤}
 use Rattle.cores.specs.declared.Core.{Core}
 use Rattle.cores.specs.declared.NoRegister.{NoRegister}
-use Rattle.cores.specs.State.{Out, Leaves, RegisterRead, RegisterSet, read_said, set_said}
+use Rattle.cores.specs.State.{Out, Leaves, RegisterRead, RegisterSet, said_register, said_set}
 use Rattle.execute.specs.declared.lack.Lack.{Lack}
-use Rattle.execute.specs.Needs.{lacking}
+use Rattle.execute.specs.Needs.{said_lack}
 use Rattle.registers.specs.declared.Changed.{Changed}
 use Rattle.registers.specs.Registers.{Changes}
 use Rattle.effects.specs.declared.Step.{Step}
@@ -22,6 +22,16 @@ use Rattle.host.specs.Host.{Told, Tells, ToldTicks, TellsTicks}
 use Rattle.encode.specs.declared.Words.{Words}
 use Rattle.encode.specs.declared.Refusal.{Refusal}
 use Rattle.encode.specs.Encode.{Encoded, said}
+use Rattle.hex_line.specs.declared.faults.LineFault.{LineFault}
+use Rattle.hex_line.specs.declared.lines.Lines.{Lines}
+use Rattle.hex_line.specs.Line.{number_said}
+use Rattle.hex_line.specs.Left.{lines_left}
+use Rattle.intel_hex.specs.declared.errors.ReadError.{ReadError}
+use Rattle.intel_hex.specs.declared.errors.WriteError.{WriteError}
+use Rattle.intel_hex.specs.Reading.{Read, read_said}
+use Rattle.intel_hex.specs.Writing as writing
+use Rattle.schedule_text.specs.declared.Refused.{Refused}
+use Rattle.schedule_text.specs.Reading.{Outcome, outcome_said}
 use Rattle.page.specs.declared.Page as code
 use Rattle.page.specs.Page.{page, Prints}
 use Rattle.page.specs.Gains.{Gains}
@@ -33,12 +43,19 @@ One {A} Meets = (x y : A) → Meets x → Meets y → x ≡ y
 pub record OneOutcome : Type 1 where
   -- a result, or the bytes of a lent buffer afterwards, that equal a definition d
   pub equation : {A : Type 0} (d : A) → One (λ (x : A). x ≡ d)
-  -- a result by what it says as a refusal's number, 0 for none, and a value: of a register, of an instruction's needs, of a snapshot, of an instruction's words
-  pub reads_register : (d : RegisterRead) → One (λ (x : Result ℕ NoRegister). read_said x ≡ d)
-  pub sets_register : (k : Core) (d : RegisterSet) → One (λ (x : Result Core NoRegister). set_said k x ≡ d)
-  pub lacks : (d : ℕ) → One (λ (x : Result ⊤ Lack). lacking x ≡ d)
+  -- a result by what it says as a refusal's number, 0 for none, and a value or a line: of a register, of an instruction's needs, of a snapshot, of an instruction's words, of a HEX line, of a
+  -- HEX file read and written, of a schedule's text
+  pub reads_register : (d : RegisterRead) → One (λ (x : Result ℕ NoRegister). said_register x ≡ d)
+  pub sets_register : (k : Core) (d : RegisterSet) → One (λ (x : Result Core NoRegister). said_set k x ≡ d)
+  pub lacks : (d : ℕ) → One (λ (x : Result ⊤ Lack). said_lack x ≡ d)
   pub reads : (d : SnapshotRead) → One (λ (x : Result Core Unreadable). said_read x ≡ d)
   pub encodes : (d : Encoded) → One (λ (x : Result Words Refusal). said x ≡ d)
+  pub judges_line : (d : ℕ) → One (λ (x : Result ⊤ LineFault). number_said x ≡ d)
+  pub reads_hex : (d : Read) → One (λ (x : Result ⊤ ReadError). read_said x ≡ d)
+  pub writes_hex : (d : writing.Written) → One (λ (x : Result ℕ WriteError). writing.write_said x ≡ d)
+  pub reads_schedule : (d : Outcome) → One (λ (x : Result ℕ Refused). outcome_said x ≡ d)
+  -- an iterator over the lines of a text, by those that are left
+  pub yields : (d : List (List ℕ)) (x y : Lines) → lines_left x ≡ d → lines_left y ≡ d → lines_left x ≡ lines_left y
   -- a core, and the bytes of data
   pub leaves : (o : Out) → One (λ (x : Core × List ℕ). Leaves o x.0 x.1)
   -- lent registers, the rest of a core, and the bytes of data

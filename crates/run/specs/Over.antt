@@ -69,9 +69,9 @@ tick_in s p m o =
     (record { number = (read_of s).refusal; snapshot = s; bytes = m })
 
 -- the number of what the code hands back
-abbrev pub number_in : Result Answer Unreadable → ℕ
-number_in (Ok a) = number_of a
-number_in (Err e) = unreadable_number e
+abbrev pub said_tick : Result Answer Unreadable → ℕ
+said_tick (Ok a) = number_of a
+said_tick (Err e) = unreadable_number e
 
 pub record TicksIn (t : TickIn) (n : ℕ) (s m : List ℕ) : Type 0 where
   pub number : n ≡ t.number
@@ -96,13 +96,13 @@ abbrev pub over_of : Run → Over
 over_of r = record { ended = ended_of r.answer; ticks = r.count }
 
 -- and the number and the count of that, or of a check
-abbrev pub answer_in : Result Over Unreadable → ℕ
-answer_in (Ok a) = ended_number a.ended
-answer_in (Err e) = unreadable_number e
+abbrev pub said_run : Result Over Unreadable → ℕ
+said_run (Ok a) = ended_number a.ended
+said_run (Err e) = unreadable_number e
 
-abbrev pub count_in : Result Over Unreadable → ℕ
-count_in (Ok a) = a.ticks
-count_in (Err e) = 0
+abbrev pub said_count : Result Over Unreadable → ℕ
+said_count (Ok a) = a.ticks
+said_count (Err e) = 0
 
 pub record RunsIn (r : RunIn) (a n : ℕ) (s m : List ℕ) : Type 0 where
   pub answer : a ≡ r.answer

@@ -2,7 +2,7 @@
 ghost use Rattle.std.specs.Prelude.{◌≡◌, ◌<◌};
 ghost use Rattle.tick.specs.Tick.{number_of};
 ghost use Rattle.snapshot.specs.Snapshot.{read_of};
-ghost use Rattle.run.specs.Over.{tick_over, TickedOver, Stretches, Advances, passed, number_in, tick_in, TicksIn, over_of, answer_in, count_in, run_over, run_in, RunsIn};
+ghost use Rattle.run.specs.Over.{tick_over, TickedOver, Stretches, Advances, passed, said_tick, tick_in, TicksIn, over_of, said_run, said_count, run_over, run_in, RunsIn};
 
 use crate::Ended;
 use crate::go::go;
@@ -135,7 +135,7 @@ pub fn tick_in(
     offer: Option<u16>,
 ) -> Result<Answer, Unreadable>
     ensures handed_back { result ≡ passed (read_of snapshot.old).refusal (tick_over snapshot.old program.now «data».old offer).answer }
-    ensures left { TicksIn (tick_in snapshot.old program.now «data».old offer) (number_in result) snapshot.new «data».new }
+    ensures left { TicksIn (tick_in snapshot.old program.now «data».old offer) (said_tick result) snapshot.new «data».new }
 {
     check(snapshot)?;
     let last = snapshot[37];
@@ -158,7 +158,7 @@ pub fn run_in(
     budget: u32,
 ) -> Result<Over, Unreadable>
     ensures handed_back { result ≡ passed (read_of snapshot.old).refusal (over_of (run_over budget snapshot.old program.now «data».old offer)) }
-    ensures left { RunsIn (run_in snapshot.old program.now «data».old offer budget) (answer_in result) (count_in result) snapshot.new «data».new }
+    ensures left { RunsIn (run_in snapshot.old program.now «data».old offer budget) (said_run result) (said_count result) snapshot.new «data».new }
 {
     check(snapshot)?;
     if budget == 0 {
