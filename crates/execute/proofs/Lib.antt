@@ -1,3 +1,2 @@
--- `Answers`: what an instruction answers. `Lacks`: a refusal by its number.
+-- `Answers`: what an instruction answers.
 pub mod Answers
-pub mod Lacks
