@@ -20,16 +20,15 @@ pub(crate) fn put_told(
     ensures { Puts (page out.old 0) (told_of budget (record { done = done; core = core.now; entered = entered.now; bytes = «data».now }) text.now schedule.now) (page out.new result) }
 {
     let mut program = [0u8; 49152];
-    let read = intel_hex::read(text, &mut program);
-    if read.refusal != 0 {
-        return put_refusal(out, 2, read.refusal, read.line);
+    if let Err(error) = intel_hex::read(text, &mut program) {
+        return put_refusal(out, 2, error.into(), error.line());
     }
     let mut list = [0u8; 327680];
-    let listed = schedule_text::read(schedule, &mut list);
-    if listed.fault != 0 {
-        return put_refusal(out, 3, listed.fault, listed.line);
-    }
-    let end = 5 * listed.records;
+    let records = match schedule_text::read(schedule, &mut list) {
+        Ok(records) => records,
+        Err(refused) => return put_refusal(out, 3, refused.fault.into(), refused.line),
+    };
+    let end = 5 * records;
     put_run(
         out,
         core,
