@@ -34,6 +34,7 @@ pub struct Step {
 }
 
 // The instruction of a form, by its word and the one at PC, which is behind it already. In the order of the Rust's `tick`.
+// A `Step` in the place of the five parts of the core was tried: 59 instructions a tick of heat_index in a run, against 53.
 pub fn effect(
     form: u8,
     opcode: u16,

@@ -1,4 +1,5 @@
 // DATA TRANSFER INSTRUCTIONS over lent registers, in the order of cores.rs, by the instruction's word. 0x3D to 0x3F are SP and SREG, the lent bytes stand everywhere else.
+// The same as methods that take a core by value, which the documents ask for, stand in crates/cores; a fast run has no core to copy.
 ghost use Rattle.std.specs.Prelude.{◌≡◌, ◌+◌, slice_index, slice_set};
 ghost use Rattle.basis.specs.Bit.{up};
 ghost use Rattle.instruction.specs.Decode.{d5, A5, b3};

@@ -19,11 +19,9 @@ use Rattle.snapshot.specs.declared.Unreadable.{Unreadable}
 use Rattle.snapshot.specs.declared.Unreadable.TheVariants.{Length, Busy, Spare}
 use Rattle.snapshot.specs.Snapshot.{bytes_of, core_of, said_read, refused_read, read_of, write_of}
 use Rattle.snapshot.proofs.RoundTrips.{at_tail, bytes_back, written, writing_undoes_reading}
-use Rattle.run.specs.Run.{Run, spent, ended_number, ran, run_of}
-use Rattle.run.specs.Over.{said_by, tick_over, TickedOver, Stretches, run_over, Advances, tick_in, TicksIn, passed, over_of, run_in, RunsIn, of_check}
-use Rattle.run.specs.declared.over.Over.{Over}
+use Rattle.run.specs.Run.{Run, spent, ran, run_of}
+use Rattle.run.specs.Over.{said_by, tick_over, TickedOver, Stretches, run_over, tick_in, TicksIn, passed, over_of, run_in, RunsIn, of_check}
 use Rattle.run.specs.declared.Ended.TheVariants.{Budget}
-use Rattle.run.proofs.Ends.{ends_have_their_numbers}
 use Rattle.run.proofs.Unroll.{step, begun, unroll_spent}
 use Rattle.run.proofs.Six.{stored}
 use Rattle.run.proofs.Stretched.{long, brief, said_busy}
@@ -64,15 +62,7 @@ module _ (s p m : List ℕ) (o : Offer) where
         → TicksIn (tick_in s p m o) n s' m'
     tick_passed e f g = rw (eq-eqb (read_of s).refusal 0 h) (record { number = e; snapshot = f; bytes = g })
 
-    pub run_passed : (b : ℕ) (x : Over) {s' m' : List ℕ} → Advances s p m o b x s' m' → RunsIn (run_in s p m o b) (ended_number x.ended) x.ticks s' m'
-    run_passed b x w =
-        rw (eq-eqb (read_of s).refusal 0 h)
-        (record { answer = ap ended_number w.answer ∙ ends_have_their_numbers (run_over b s p m o).answer; count = w.count; snapshot = w.snapshot; bytes = w.bytes })
-
-    -- as the code hands it back
-    pub run_told : (b : ℕ) (x : Over) {s' m' : List ℕ} → Advances s p m o b x s' m' → Ok x ≡ passed (read_of s).refusal (over_of (run_over b s p m o))
-    run_told b x w = told_as h (rw (w.answer, w.count))
-
+    -- a run of no tick, as the code hands it back
     pub run_none_told : Ok (record { ended = Budget; ticks = 0 }) ≡ passed (read_of s).refusal (over_of (run_over 0 s p m o))
     unfolding ran
     run_none_told = told_as h refl
