@@ -57,9 +57,8 @@ module _ (s p m l : List ℕ) (done b : ℕ) (e : List ℕ) where
       let same : rest_from u done s p m (records_of l) ≡ rest_from b done s p m (records_of l) = ap (λ (n : ℕ). scheduled n done (said_by s) p m (records_of l)) left in
       let run = w.run ∙ ap (λ x. x.run) same in
       let back = ap (λ r. r.bytes) (writing_undoes_reading s' s bs w.read long) in
-      rw yes (ap (λ (r : Run). record { run = record { answer = r.answer; count = r.count; snapshot = (write_of r.core s).bytes; bytes = r.bytes }; numbers = numbers_of (rest_from b done s p m (records_of l)).entries e }) (sym run)
-      ∙ ap (λ (x : List ℕ). record { run = record { answer = ended_number a.ended; count = a.ticks; snapshot = x; bytes = m' }; numbers = numbers_of (rest_from b done s p m (records_of l)).entries e }) back
-      ∙ ap (λ (x : List ℕ). record { run = record { answer = ended_number a.ended; count = a.ticks; snapshot = s'; bytes = m' }; numbers = x }) (sym (w.numbers ∙ ap (λ x. numbers_of x.entries e) same)))
+      let numbers : e' ≡ numbers_of (rest_from b done s p m (records_of l)).entries e = w.numbers ∙ ap (λ x. numbers_of x.entries e) same in
+      rw (yes, ← run, back, ← numbers)
 
 -- ---- of a core
 module _ (b : ℕ) (k : Core) (p m l e : List ℕ) where
