@@ -21,11 +21,7 @@ use Rattle.cores.specs.State.{RegisterRead, RegisterSet, said_register, said_set
 use Rattle.execute.specs.declared.lack.Lack.{Lack}
 use Rattle.execute.specs.declared.lack.Lack.TheVariants as lack
 use Rattle.execute.specs.Needs.{said_lack}
-use Rattle.snapshot.specs.declared.Unreadable.{Unreadable}
-use Rattle.snapshot.specs.declared.Unreadable.TheVariants as unreadable
-use Rattle.snapshot.specs.declared.Unwritable.{Unwritable}
-use Rattle.snapshot.specs.declared.Unwritable.TheVariants as unwritable
-use Rattle.snapshot.specs.Snapshot.{SnapshotRead, said_read, said_write}
+use Rattle.snapshot.proofs.Said.{said_read_once, said_write_once}
 use Rattle.encode.specs.declared.Words.{Words}
 use Rattle.encode.specs.declared.Words.TheVariants as words
 use Rattle.encode.specs.declared.Refusal.{Refusal}
@@ -101,30 +97,6 @@ lacks = once said_lack told back
     back (Err lack.Room) = refl
     back (Err lack.Stack) = refl
     back (Err lack.Data) = refl
-
-reads : (d : SnapshotRead) → One (λ (x : Result Core Unreadable). said_read x ≡ d)
-reads = once said_read told back
-    where
-    told : SnapshotRead → Result Core Unreadable
-    told d =
-        pick (d.refusal == 0) (Ok d.core) (pick (d.refusal == 7) (Err unreadable.Length) (pick (d.refusal == 8) (Err unreadable.Busy) (Err unreadable.Spare)))
-
-    back : (x : Result Core Unreadable) → told (said_read x) ≡ x
-    back (Ok k) = refl
-    back (Err unreadable.Length) = refl
-    back (Err unreadable.Busy) = refl
-    back (Err unreadable.Spare) = refl
-
-writes_said : (n : ℕ) → One (λ (x : Result ⊤ Unwritable). said_write x ≡ n)
-writes_said = once said_write told back
-    where
-    told : ℕ → Result ⊤ Unwritable
-    told n = pick (n == 0) (Ok tt) (pick (n == 7) (Err unwritable.Length) (Err unwritable.Busy))
-
-    back : (x : Result ⊤ Unwritable) → told (said_write x) ≡ x
-    back (Ok t) = refl
-    back (Err unwritable.Length) = refl
-    back (Err unwritable.Busy) = refl
 
 encodes : (d : Encoded) → One (λ (x : Result Words Refusal). said x ≡ d)
 encodes = once said told back
@@ -247,7 +219,7 @@ one_outcome =
       reads_register = reads_register;
       sets_register = sets_register;
       lacks = lacks;
-      reads = reads;
+      reads = λ d x y e f. said_read_once x y (equation e f);
       encodes = encodes;
       judges_line = judges_line;
       reads_hex = reads_hex;
@@ -256,7 +228,7 @@ one_outcome =
       yields = λ d x y e f. equation e f;
       ticks_in = λ o n x y e f. two (equation e.snapshot f.snapshot) (equation e.bytes f.bytes);
       runs_in = λ o a n x y e f. two (equation e.snapshot f.snapshot) (equation e.bytes f.bytes);
-      writes = λ w x y e f. two (writes_said w.refusal x.0 y.0 e.refusal f.refusal) (equation e.bytes f.bytes);
+      writes = λ w x y e f. two (said_write_once x.0 y.0 (equation e.refusal f.refusal)) (equation e.bytes f.bytes);
       tells = λ o x y e f. three (equation e.number f.number) (equation e.snapshot f.snapshot) (equation e.bytes f.bytes);
       tells_ticks =
           λ o x y e f. four (equation e.number f.number) (equation e.snapshot f.snapshot) (equation e.bytes f.bytes) (equation e.ticks f.ticks);

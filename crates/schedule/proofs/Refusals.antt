@@ -63,5 +63,5 @@ started_refused s l room x h =
     let (some, is) = started_err (refusal_in s l room) x h in (
       some,
       ap refused_number is
-      ∙ numbered (eqb (length s) 38) (ltb 4 (get_or s 37 0 / 32)) (eqb (get_or s 37 0 % 4) 0) (eqb (length l % 5) 0) (rising 0 (records_of l)) (ltb room (length l / 5)) (core_of s) some,
+          ∙ numbered (eqb (length s) 38) (ltb 4 (get_or s 37 0 / 32)) (eqb (get_or s 37 0 % 4) 0) (eqb (length l % 5) 0) (rising 0 (records_of l)) (ltb room (length l / 5)) (core_of s) some,
     )

@@ -4,23 +4,25 @@ use mathlib.Core.Path.{◌≡◌, refl, sym, ap, ◌∙◌}
 use mathlib.Core.Logic.{inl, inr}
 use mathlib.Core.Bool.{Bool, true, false, not, ◌&&◌}
 use mathlib.Core.List.{List, ◌++◌}
-use Prim.Native.Nat.{ℕ, zero, suc, ◌-◌, ◌/◌, ◌%◌, ◌<◌, max}
+use Prim.Native.Nat.{ℕ, zero, suc, ◌-◌, ◌/◌, ◌%◌, ◌<◌, ◌≤◌, max}
 use native.Mathlib.Nat.{sub-zero}
 use native.Mathlib.Omega.{arith}
 use lib.Dec.{eqb, leb, ltb}
-use lib.ListN.{drop, length, replicate, length-replicate}
+use lib.ListN.{take, drop, length, replicate, length-replicate}
 use borrow.Author.Tests.{eq-eqb, ne_eqb, le-leb, lt-leb}
 use Rattle.basis.specs.Pick.{pick}
 use Rattle.basis.specs.Bytes.{Bytes}
 use Rattle.basis.proofs.Choice.{clash}
 use Rattle.cores.specs.declared.Core.{Core}
+use Rattle.cores.specs.State.{Sound}
 use Rattle.snapshot.specs.declared.Unreadable.{Unreadable}
 use Rattle.tick.specs.Tick.{Tick, number_of, refuses, stops, tick_of}
-use Rattle.std.specs.Prelude.{None, Result, Ok}
+use Rattle.std.specs.Prelude.{None, Result, Ok, Err}
 use Rattle.invariants.specs.Ticks.{TickNumber}
 use Rattle.invariants.proofs.Ticks.{ticks_answer_tick_numbers}
-use Rattle.snapshot.specs.Snapshot.{said_read, read_of, write_of}
-use Rattle.snapshot.proofs.RoundTrips.{writing_undoes_reading}
+use Rattle.snapshot.specs.declared.Unwritable.{Unwritable}
+use Rattle.snapshot.specs.Snapshot.{said_read, said_write, unwritable_number, read_of, write_of}
+use Rattle.snapshot.proofs.RoundTrips.{reading_undoes_writing, writing_undoes_reading}
 use Rattle.run.specs.declared.Ended.{Ended}
 use Rattle.run.specs.declared.Ended.TheVariants as end
 use Rattle.run.specs.declared.Ran.{Ran}
@@ -29,12 +31,14 @@ use Rattle.run.specs.Over.{said_by}
 use Rattle.run.specs.Over as over
 use Rattle.run.specs.declared.over.Over.{Over}
 use Rattle.run.proofs.Calls.{run_in_refused, check_told}
-use Rattle.run.proofs.Through.{too_busy_lem}
-use Rattle.schedule.specs.Schedule.{Record, records_of, rising, refusal_of, offered, Scheduled, stopped, scheduled, numbers_of, Schedule, schedule_of, listed, ran_of, refusal_in, schedule_in, schedule_from, of_check}
-use Rattle.schedule.specs.Follow.{Plain, rest_from, Follows}
+use Rattle.run.proofs.Through.{too_busy_lem, not_written}
+use Rattle.schedule.specs.Schedule.{Record, records_of, rising, refusal_of, offered, Scheduled, stopped, scheduled, numbers_of, Schedule, schedule_of, said_check, listed, ran_of, refusal_in, schedule_in, schedule_from, of_check}
+use Rattle.schedule.specs.Follow.{rest_from, Follows}
 use Rattle.schedule.proofs.Steps.{step_by, one_tick}
 use Rattle.schedule.proofs.Following.{many_records}
-use Rattle.schedule.proofs.Refusals.{listed_is}
+use Rattle.schedule.proofs.Checks.{cleared}
+use Rattle.schedule.proofs.Refusals.{listed_is, list_passed}
+use Rattle.schedule.specs.declared.list.Unlisted.{Unlisted}
 
 -- ---- over a snapshot
 module _ (s p m l : List ℕ) (done b : ℕ) (e : List ℕ) where
@@ -53,16 +57,15 @@ module _ (s p m l : List ℕ) (done b : ℕ) (e : List ℕ) where
       let same : rest_from u done s p m (records_of l) ≡ rest_from b done s p m (records_of l) = ap (λ (n : ℕ). scheduled n done (said_by s) p m (records_of l)) left in
       let run = w.run ∙ ap (λ x. x.run) same in
       let back = ap (λ r. r.bytes) (writing_undoes_reading s' s bs w.read long) in
-      rw yes (ap (λ (r : Run). record { run = record { answer = r.answer; count = r.count; snapshot = (write_of r.core s).bytes; bytes = r.bytes }; numbers = numbers_of (rest_from b done s p m (records_of l)).entries e }) (sym run)
-      ∙ ap (λ (x : List ℕ). record { run = record { answer = ended_number a.ended; count = a.ticks; snapshot = x; bytes = m' }; numbers = numbers_of (rest_from b done s p m (records_of l)).entries e }) back
-      ∙ ap (λ (x : List ℕ). record { run = record { answer = ended_number a.ended; count = a.ticks; snapshot = s'; bytes = m' }; numbers = x }) (sym (w.numbers ∙ ap (λ x. numbers_of x.entries e) same)))
+      let numbers : e' ≡ numbers_of (rest_from b done s p m (records_of l)).entries e = w.numbers ∙ ap (λ x. numbers_of x.entries e) same in
+      rw (yes, ← run, back, ← numbers)
 
 -- ---- of a core
 module _ (b : ℕ) (k : Core) (p m l e : List ℕ) where
   abbrev y : Scheduled
   y = scheduled b 0 k p m (records_of l)
 
-  pub of_refused : (n : ℕ) → refusal_of l (length e) ≡ n → (n ≡ 0 → ⊥) → schedule_of b k p m l e ≡ record { run = record { answer = n; count = 0; core = k; bytes = m }; numbers = e }
+  of_refused : (n : ℕ) → refusal_of l (length e) ≡ n → (n ≡ 0 → ⊥) → schedule_of b k p m l e ≡ record { run = record { answer = n; count = 0; core = k; bytes = m }; numbers = e }
   of_refused n g h =
       let no = ne_eqb (refusal_of l (length e)) 0 (λ z. h (sym g ∙ z)) in
       rw (no, g)
@@ -82,7 +85,7 @@ module _ (b : ℕ) (k : Core) (p m l e : List ℕ) where
       ∙ ap (λ (t : Tick). step_by (refuses t.answer) (stops t.answer) (eqb (number_of t.answer) 17) 0 t ds (scheduled b 1 t.core p t.bytes (drop 1 ds)) (scheduled b 1 t.core p t.bytes ds))
       (too_busy_lem k p m (offered 1 ds) h))
 
-  pub of_busy : refusal_of l (length e) ≡ 0 → 4 < k.busy
+  of_busy : refusal_of l (length e) ≡ 0 → 4 < k.busy
       → schedule_of b k p m l e ≡ record { run = record { answer = pick (eqb b 0) 24 5; count = 0; core = k; bytes = m }; numbers = replicate (length l / 5) 0 ++ drop (length l / 5) e }
   of_busy g h =
       let is = at_once b (records_of l) h in
@@ -92,27 +95,66 @@ module _ (b : ℕ) (k : Core) (p m l e : List ℕ) where
       (ap (λ z. numbers_of z.entries e) is ∙ ap (λ (c : ℕ). numbers_of (zeros c) e) (many_records l 0 many) ∙ ap (λ (c : ℕ). zeros many ++ drop c e) (length-replicate many 0))
 
   -- as the code hands it back
-  pub handed_back : refusal_of l (length e) ≡ 0 → {x : Schedule} → schedule_of b k p m l e ≡ x → {y : Ran} → y ≡ ran_of x.run → Ok y ≡ listed (refusal_of l (length e)) (ran_of (schedule_of b k p m l e).run)
+  handed_back : refusal_of l (length e) ≡ 0 → {x : Schedule} → schedule_of b k p m l e ≡ x → {y : Ran} → y ≡ ran_of x.run → Ok y ≡ listed (refusal_of l (length e)) (ran_of (schedule_of b k p m l e).run)
   handed_back g {x} is {y} f = ap (λ (z : Ran). Ok z) (f ∙ ap (λ z. ran_of z.run) (sym is)) ∙ listed_is (ran_of (schedule_of b k p m l e).run) g
 
-  pub busy_spent : b ≡ 0 → record { ended = end.Budget; ticks = 0; core = k } ≡ ran_of (record { answer = pick (eqb b 0) 24 5; count = 0; core = k; bytes = m })
-  busy_spent h = rw (eq-eqb b 0 h)
-
-  pub busy_refused : (b ≡ 0 → ⊥) → {n : ℕ} → n ≡ 5 → record { ended = end.Refused n; ticks = 0; core = k } ≡ ran_of (record { answer = pick (eqb b 0) 24 5; count = 0; core = k; bytes = m })
-  busy_refused z h = rw (h, ne_eqb b 0 z)
-
-  pub ran_back : (a : Over) (s' m' : List ℕ) {q : Result Core Unreadable} {k' : Core} → Plain a → said_read q ≡ read_of s' → q ≡ Ok k'
-      → record { ended = a.ended; ticks = a.ticks; core = k' } ≡ ran_of (record { answer = ended_number a.ended; count = a.ticks; core = said_by s'; bytes = m' })
-  ran_back a s' m' {q} {k'} plain f g =
-      let core : k' ≡ said_by s' = ap (λ r. r.core) (sym (ap said_read g) ∙ f) in
-      ap (λ (x : Ended). record { ended = x; ticks = a.ticks; core = k' }) plain ∙ ap (λ (z : Core). record { ended = ended_of (ended_number a.ended); ticks = a.ticks; core = z }) core
-
   -- through its snapshot
-  pub of_followed : refusal_of l (length e) ≡ 0 → (s : List ℕ) → read_of s ≡ record { refusal = 0; core = k } → (a : Over) {s' m' e' : List ℕ} → Follows s p m l 0 b e a s' m' e'
+  of_followed : refusal_of l (length e) ≡ 0 → (s : List ℕ) → read_of s ≡ record { refusal = 0; core = k } → (a : Over) {s' m' e' : List ℕ} → Follows s p m l 0 b e a s' m' e'
       → schedule_of b k p m l e ≡ record { run = record { answer = ended_number a.ended; count = a.ticks; core = said_by s'; bytes = m' }; numbers = e' }
   of_followed g s f a {s'} {m'} w =
       let same : rest_from b 0 s p m (records_of l) ≡ y = rw sub-zero (ap (λ r. scheduled b 0 r.core p m (records_of l)) f) in
       of_passed g (sym (w.run ∙ ap (λ t. t.run) same)) (sym (w.numbers ∙ ap (λ t. numbers_of t.entries e) same))
+
+  -- ---- by what the code's calls hand back: its check of the list has passed
+  module _ {r : Result Unit Unlisted} {x : Unit} (checked : said_check r ≡ refusal_of l (length e)) (ok : r ≡ Ok x) where
+    abbrev passed : refusal_of l (length e) ≡ 0
+    passed = list_passed checked ok
+
+    -- and the core is too busy to be written
+    module _ {q : Result Unit Unwritable} {y : Unwritable} (wrote : said_write q ≡ (write_of k (replicate 38 0)).refusal) (not : q ≡ Err y) where
+      busy : (4 < k.busy) × (unwritable_number y ≡ 5)
+      busy = not_written k (replicate 38 0) refl y (ap said_write (sym not) ∙ wrote)
+
+      is : schedule_of b k p m l e ≡ record { run = record { answer = pick (eqb b 0) 24 5; count = 0; core = k; bytes = m }; numbers = replicate (length l / 5) 0 ++ drop (length l / 5) e }
+      is = of_busy passed busy.0
+
+      pub busy_spent : b ≡ 0 → Ok (record { ended = end.Budget; ticks = 0; core = k }) ≡ listed (refusal_of l (length e)) (ran_of (schedule_of b k p m l e).run)
+      busy_spent h = handed_back passed is (rw (eq-eqb b 0 h))
+
+      pub busy_refused : (b ≡ 0 → ⊥) → {n : ℕ} → n ≡ unwritable_number y
+          → Ok (record { ended = end.Refused n; ticks = 0; core = k }) ≡ listed (refusal_of l (length e)) (ran_of (schedule_of b k p m l e).run)
+      busy_refused z h = handed_back passed is (rw (h, busy.1, ne_eqb b 0 z))
+
+      pub busy_data : m ≡ (schedule_of b k p m l e).run.bytes
+      busy_data = sym (ap (λ z. z.run.bytes) is)
+
+      pub busy_entered : {z : List ℕ} → z ≡ replicate (length (take (length l / 5) e)) 0 → z ++ drop (length l / 5) e ≡ (schedule_of b k p m l e).numbers
+      busy_entered zeros = cleared l e passed refl zeros ∙ sym (ap (λ z. z.numbers) is)
+
+    -- or its snapshot is run
+    module _ (sound : Sound k) {s : List ℕ} (bytes : s ≡ (write_of k (replicate 38 0)).bytes) where
+      written : read_of s ≡ record { refusal = 0; core = k }
+      written = ap read_of bytes ∙ reading_undoes_writing k (replicate 38 0) sound refl
+
+      pub may_follow : ((read_of s).refusal ≡ 0) × ((refusal_of l (length e) ≡ 0) × (0 ≤ b))
+      may_follow = (ap (λ r. r.refusal) written, (passed, omega arith))
+
+      module _ {a : Over} {s' m' e' : List ℕ} (w : Follows s p m l 0 b e a s' m' e') where
+        ran : schedule_of b k p m l e ≡ record { run = record { answer = ended_number a.ended; count = a.ticks; core = said_by s'; bytes = m' }; numbers = e' }
+        ran = of_followed passed s written a w
+
+        pub ran_back : {q : Result Core Unreadable} {k' : Core} → said_read q ≡ read_of s' → q ≡ Ok k'
+            → Ok (record { ended = a.ended; ticks = a.ticks; core = k' }) ≡ listed (refusal_of l (length e)) (ran_of (schedule_of b k p m l e).run)
+        ran_back {q} {k'} f g =
+            let core : k' ≡ said_by s' = ap (λ r. r.core) (sym (ap said_read g) ∙ f) in
+            handed_back passed ran
+            (ap (λ (x : Ended). record { ended = x; ticks = a.ticks; core = k' }) w.plain ∙ ap (λ (z : Core). record { ended = ended_of (ended_number a.ended); ticks = a.ticks; core = z }) core)
+
+        pub ran_data : m' ≡ (schedule_of b k p m l e).run.bytes
+        ran_data = sym (ap (λ z. z.run.bytes) ran)
+
+        pub ran_entered : e' ≡ (schedule_of b k p m l e).numbers
+        ran_entered = sym (ap (λ z. z.numbers) ran)
 
 -- ---- the numbers of the checks
 tick_apart : (n : ℕ) → TickNumber n → of_check n ≡ false
