@@ -174,13 +174,8 @@ module _ (tick done b : ℕ) where
       rw (lt-leb d.tick x (omega (arith, e, early))) (not_due x d.tick ds (omega (arith, e, early)) f)
 
 -- ---- a record
-<<<<<<< HEAD
-module _ {s p m : List ℕ} {u : ℕ} {s' m' : List ℕ} {r : Result Over Unreadable} {x : Over} (read : (read_of s).refusal ≡ 0) (bs : Bytes s) (bp : Bytes p) (bm : Bytes m)
-    (is : r ≡ Ok x) (back : r ≡ passed (read_of s).refusal (over_of (run_over u s p m None))) (runs : RunsIn (run_in s p m None u) (said_run r) (said_count r) s' m')
-=======
 module _ (s p m : List ℕ) {u : ℕ} {s' m' : List ℕ} {r : Result Over Unreadable} {x : Over} (read : (read_of s).refusal ≡ 0) (bs : Bytes s) (bp : Bytes p) (bm : Bytes m)
-    (is : r ≡ Ok x) (back : r ≡ passed (read_of s).refusal (over_of (run_over u s p m None))) (runs : RunsIn (run_in s p m None u) (answer_in r) (count_in r) s' m')
->>>>>>> a67dd24d75edb762e1c9f34def1d50dca868222e
+    (is : r ≡ Ok x) (back : r ≡ passed (read_of s).refusal (over_of (run_over u s p m None))) (runs : RunsIn (run_in s p m None u) (said_run r) (said_count r) s' m')
     (d : Record) (done b : ℕ) (low : done ≤ b) (many : u ≡ until_of d.tick done b) where
   abbrev Q : Quiet
   Q = handed s p m u read bs bp bm is back runs
