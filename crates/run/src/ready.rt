@@ -36,7 +36,7 @@ fn ready(form: u8, opcode: u16, regs: &[u8], pc: u16, sp: u16, program: &[u8], d
     ensures { Readies form opcode regs.now pc sp program.now «data».now result }
 {
     match form {
-        // Change of Flow Instructions. An arm an instruction: with an or-pattern its proof, a line an arm, would have to tell the alternatives apart again.
+        // Change of Flow Instructions. An arm an instruction: of `RET | RETI` the check keeps bounds of the form alone, from which the proof would have to tell the two apart again.
         CALL => pushes(sp, data),
         ICALL => pushes(sp, data),
         RCALL => pushes(sp, data),
