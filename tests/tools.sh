@@ -30,7 +30,8 @@ make_crates() ( # `top` uses `code`, `stated` and `proved`, says why it has `typ
     mkdir -p "$made/crates/top/src" "$made/crates/top/proofs/next" "$made/crates/proved/proofs"
     cd "$made" || exit
     printf '# a comment: none\ntop staticlib: code stated proved typed said # typed: a local has its type\nproved: # said\n' >crates.txt
-    printf '// said::x\nuse code::Core;\nghost use Rattle.stated.specs.State.{reg};\n' >crates/top/src/lib.rt
+    printf '// said::x\n#![tactic(auto, using(crate::proofs::Named::law))]\nuse code::Core;\nghost use Rattle.stated.specs.State.{reg};\n' >crates/top/src/lib.rt
+    printf 'pub law : (x : N) → x ≡ x\n' >crates/top/proofs/Named.antt
     printf 'use Rattle.proved.proofs.Laws.{law}\n' >crates/top/proofs/next/Answers.antt
     printf 'pub mod Unused\npub mod End\n' >crates/top/proofs/Lib.antt
     printf -- '-- use Rattle.said.specs.State.{reg}\npub law : (x : N) → x ≡ x\n' >crates/top/proofs/Unused.antt

@@ -1,9 +1,19 @@
-# Prints a row of docs/CONTRACTS.md for each public function of a file of Rattle, and its faults to standard error. What it does not understand is a fault.
+# Prints a row of docs/CONTRACTS.md for each public function of a file of Rattle and for each of its conversions, an `impl From`, and its faults to standard error. What it does not understand is a fault.
 # The file is in the layout of `rt fmt`.
 BEGIN {
     # a clause's form, and the law of crates/promises/specs/OneOutcome.antt by which it pins what it speaks of:
     # D is a definition over what was there before the call, r the result, x a parameter or what it points to before the call, and x′ what it points to after it
     rules["r ≡ D"] = rules["x′ ≡ D"] = "equation"
+    rules["said_register r ≡ D"] = "reads_register"
+    rules["said_set x r ≡ D"] = "sets_register"
+    rules["said_lack r ≡ D"] = "lacks"
+    rules["said_read r ≡ D"] = "reads"
+    rules["said r ≡ D"] = "encodes"
+    rules["number_said r ≡ D"] = "judges_line"
+    rules["read_said r ≡ D"] = "reads_hex"
+    rules["write_said r ≡ D"] = "writes_hex"
+    rules["outcome_said r ≡ D"] = "reads_schedule"
+    rules["lines_left r ≡ D"] = "yields"
     rules["Leaves D r x′"] = "leaves"
     rules["Leaves D (cored x′ r x) x′"] = "leaves_lent"
     rules["Changes D x x x x x r x′"] = "changes"
@@ -11,11 +21,11 @@ BEGIN {
     rules["Ticks D r x′"] = "ticks"
     rules["Ticks D (in_place r x′) x′"] = "ticks_in_place"
     rules["Runs D r x′"] = "runs"
-    rules["TicksIn D r x′ x′"] = "ticks_in"
-    rules["RunsIn D r x′ x′"] = "runs_in"
-    rules["Writes D r x′"] = "writes"
+    rules["TicksIn D (said_tick r) x′ x′"] = "ticks_in"
+    rules["RunsIn D (said_run r) (said_count r) x′ x′"] = "runs_in"
+    rules["Writes D (said_write r) x′"] = "writes"
     rules["Prints D x r x′"] = "prints"
-    rules["Puts D D (page x′ r)"] = "puts"
+    rules["Gains x D x′"] = "gains"
     rules["Tells D r x′ x′"] = "tells"
     rules["TellsTicks D r x′ x′ x′"] = "tells_ticks"
     # where what the forms are written in is defined
@@ -26,9 +36,18 @@ BEGIN {
     homes["Executes"] = "Rattle.execute.specs.Execute"
     homes["Ticks"] = homes["in_place"] = "Rattle.tick.specs.Tick"
     homes["Runs"] = "Rattle.run.specs.Run"
-    homes["TicksIn"] = homes["RunsIn"] = "Rattle.run.specs.Over"
-    homes["Writes"] = "Rattle.snapshot.specs.Snapshot"
-    homes["Prints"] = homes["Puts"] = homes["page"] = "Rattle.page.specs.Page"
+    homes["TicksIn"] = homes["RunsIn"] = homes["said_tick"] = homes["said_run"] = homes["said_count"] = "Rattle.run.specs.Over"
+    homes["Writes"] = homes["said_read"] = homes["said_write"] = "Rattle.snapshot.specs.Snapshot"
+    homes["Prints"] = "Rattle.page.specs.Page"
+    homes["Gains"] = "Rattle.page.specs.Gains"
+    homes["said_register"] = homes["said_set"] = "Rattle.cores.specs.State"
+    homes["said_lack"] = "Rattle.execute.specs.Needs"
+    homes["said"] = "Rattle.encode.specs.Encode"
+    homes["number_said"] = "Rattle.hex_line.specs.Line"
+    homes["lines_left"] = "Rattle.hex_line.specs.Left"
+    homes["read_said"] = "Rattle.intel_hex.specs.Reading"
+    homes["write_said"] = "Rattle.intel_hex.specs.Writing"
+    homes["outcome_said"] = "Rattle.schedule_text.specs.Reading"
     homes["Tells"] = homes["TellsTicks"] = "Rattle.host.specs.Host"
 }
 
@@ -50,9 +69,14 @@ function arguments(text, parts,    count, depth, at, c) {
 function form(text,    parts, count, at, found) {
     count = arguments(text, parts)
     if (parts[2] == "≡") return letter(parts[1]) " ≡ " definition(substr(text, index(text, " ≡ ") + length(" ≡ ")))
+    if (parts[1] == "Gains") return parts[1] " " letter(parts[2]) " " definition(parts[3]) " " letter(parts[4])
+    if (index(text, " ≡ ") > 0) {
+        found = parts[1]
+        for (at = 2; parts[at] != "≡"; at++) found = found " " letter(parts[at])
+        return found " ≡ " definition(substr(text, index(text, " ≡ ") + length(" ≡ ")))
+    }
     found = parts[1] " " definition(parts[2])
     at = 3
-    if (parts[1] == "Puts") found = found " " definition(parts[at++])
     for (; at <= count; at++) found = found " " letter(parts[at])
     return found
 }
@@ -61,7 +85,7 @@ function letter(part,    parts, count, at, found) {
     if (part == "result") return "r"
     if (part ~ /^[A-Za-z_][A-Za-z0-9_]*(\.old|\.now)?$/) return "x"
     if (part ~ /^[A-Za-z_][A-Za-z0-9_]*\.new$/) return "x′"
-    if (part !~ /^\((in_place|page|cored) [^()]*\)$/) return "?"
+    if (part !~ /^\((in_place|cored|said_write|said_tick|said_run|said_count) [^()]*\)$/) return "?"
     count = arguments(substr(part, 2, length(part) - 2), parts)
     found = parts[1]
     for (at = 2; at <= count; at++) found = found " " letter(parts[at])
@@ -95,16 +119,30 @@ function clause(    text, shape) {
     else fault("no law makes one outcome of `" text "`")
 }
 
+# the clause of an `impl From`: what the value is made from, and the value, have the names that stand behind its λ
+function gives(text,    names, value) {
+    names = text
+    sub(/^ ghost from_gives = \{ λ /, "", names); sub(/\. .*/, "", names)
+    sub(/^[^.]*\. /, "", text); sub(/ \};$/, "", text)
+    split(names, value, " ")
+    contract = text
+    converting = 2
+    if (index(text, value[2] " ≡ ") != 1 || form("result" substr(text, length(value[2]) + 1)) != "r ≡ D") fault("no law makes one outcome of `" text "`")
+    print "| `" crate "` | `" name "` | `" text "` | equation |"
+}
+
 function pin(text, shape) {
     gsub(/[()]/, " ", text)
     pinned = pinned " " text " "
-    if (shape ~ /(^|[ (])r[ )]/) told = 1
+    if (shape ~ /(^|[ (])r[ )]/ && shape !~ /said_tick|said_run/) told = 1 # other results have those numbers too
     if (index(", " laws ",", ", " rules[shape] ",") == 0) laws = laws (laws == "" ? "" : ", ") rules[shape]
 }
 
 function finish() {
     if (contract == "" && !broken) fault("has no ensures")
     if (head ~ /->/ && !told) fault("says nothing of its result")
+    gsub(/: &mut Page<'_>/, ": \\&mut Page", head) # a buffer and a place in it, which `Gains` pins
+    gsub(/-> Lines<'a>/, "-> Lines", head) # what is left of a text, which is only read
     if (head ~ /[A-Z][A-Za-z0-9_]*<'/) fault("has a struct that holds a reference, which this tool does not read")
     lent(head)
     print "| `" crate "` | `" (type == "" ? path : type "::") name "` | `" contract "` | " laws " |"
@@ -213,7 +251,29 @@ exporting && /[;{]$/ && !/::\{$/ {
     if (!plain_export(export)) fault("an export that this tool does not read")
 }
 /^ ?(pub )?mod [a-z0-9_]+ \{/ { fault("a module in a file, which this tool does not read") }
-/^ ?pub struct [A-Za-z0-9_]+</ { fault("a struct that holds a reference, which this tool does not read") }
+/^ ?pub struct [A-Za-z0-9_]+</ && !/^pub struct (Page|Lines)<'a> \{$/ { fault("a struct that holds a reference, which this tool does not read") }
+/^impl<'a> Iterator for Lines<'a> \{$/ { # its `next` is pinned by what std's trait asks of it
+    if (inside) finish()
+    name = "Iterator for Lines"
+    converting = inside = 1
+    next
+}
+converting == 1 && /^ ghost next_gives = \{ YieldsFirstRef lines_left \};$/ {
+    converting = 2
+    print "| `" crate "` | `" name "` | `YieldsFirstRef lines_left` | yields |"
+}
+/^impl From<[A-Za-z0-9_:]+> for [A-Za-z0-9_]+ \{$/ {
+    if (inside) finish()
+    name = $0; sub(/^impl /, "", name); sub(/ \{$/, "", name)
+    converting = inside = 1
+    next
+}
+converting == 1 && /^ ghost from_gives = \{ λ [a-z_]+ [a-z_]+\. .* \};$/ { gives($0) }
+converting && /^}/ {
+    if (converting == 1) fault("says nothing of what it gives, as in `ghost from_gives = { .. };`")
+    converting = inside = 0
+}
+converting { next }
 /^ ?(pub )?trait |^ ?impl.* for / { fault("a trait, whose functions this tool does not read") }
 /^ ?ghost use / { brought = ""; bringing = 1 }
 bringing { brought = brought $0 }

@@ -15,6 +15,16 @@ function use_crates(text) {
     }
 }
 
+# a lemma or a definition that an attribute of the code names, as crate::proofs::Wraps::added
+function use_attributes(text,    path) {
+    while (match(text, /[a-z0-9_]+::(proofs|specs)::[A-Za-z0-9_:]+/)) {
+        path = substr(text, RSTART, RLENGTH)
+        text = substr(text, RSTART + RLENGTH)
+        sub(/^crate::/, crate "::", path); gsub(/::/, ".", path)
+        use_path(path)
+    }
+}
+
 # a file of specs/ or proofs/ that others have to use: not the root, nor what is written of the proof of a function
 function module_of(file) {
     if (file !~ /^crates\/[^\/]*\/(specs|proofs)\// || file ~ /\/Lib\.antt$|\/proofs\/.*\/(Proof|Invariants|Answers)\.antt$/) return ""
@@ -43,7 +53,7 @@ FNR == 1 {
     if (module != "") { files[++modules] = FILENAME; names[modules] = module }
 }
 { sub(FILENAME ~ /\.rt$/ ? "//.*" : "--.*", "") }
-FILENAME ~ /\.rt$/ { use_crates($0) }
+FILENAME ~ /\.rt$/ { use_crates($0); use_attributes($0) }
 {
     text = $0
     while (match(text, /Rattle\.[A-Za-z0-9_.]+/)) {

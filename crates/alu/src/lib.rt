@@ -21,10 +21,11 @@ pub struct WordSum {
 }
 
 // a + b + c.
+#[tactic(auto, using(crate::proofs::Wraps::added), unfolding(crate::specs::Alu::plus_of))]
 pub fn plus(a: u8, b: u8, c: bool) -> Sum
     ensures { result ≡ plus_of a b c }
 {
-    let value = std::num::wrapping_add_u8(std::num::wrapping_add_u8(a, b), c as u8);
+    let value = a.wrapping_add(b).wrapping_add(c as u8);
     let n_a = a >= 128;
     let n_b = b >= 128;
     let n = value >= 128;
@@ -37,10 +38,11 @@ pub fn plus(a: u8, b: u8, c: bool) -> Sum
 }
 
 // a - b - c.
+#[tactic(auto, using(crate::proofs::Wraps::taken), unfolding(crate::specs::Alu::minus_of))]
 pub fn minus(a: u8, b: u8, c: bool) -> Sum
     ensures { result ≡ minus_of a b c }
 {
-    let value = std::num::wrapping_sub_u8(std::num::wrapping_sub_u8(a, b), c as u8);
+    let value = a.wrapping_sub(b).wrapping_sub(c as u8);
     let n_a = a >= 128;
     let n_b = b >= 128;
     let n = value >= 128;
@@ -64,7 +66,7 @@ pub fn plus_word(a: u16, n: u8) -> WordSum
     ensures { result ≡ plus_word_of a n }
 {
     WordSum {
-        value: std::num::wrapping_add_u16(a, n as u16),
+        value: a.wrapping_add(n as u16),
         carry: a as u32 + n as u32 >= 65536,
     }
 }
@@ -74,12 +76,12 @@ pub fn minus_word(a: u16, n: u8) -> WordSum
     ensures { result ≡ minus_word_of a n }
 {
     WordSum {
-        value: std::num::wrapping_sub_u16(a, n as u16),
+        value: a.wrapping_sub(n as u16),
         carry: a < n as u16,
     }
 }
 
-// The 16 bits of a signed byte.
+// The 16 bits of a signed byte. By `cast_signed` a tick of the run took 2 instructions more.
 pub fn signed(a: u8) -> u16
     ensures { result ≡ signed_of a }
 {
@@ -90,12 +92,12 @@ pub fn signed(a: u8) -> u16
 pub fn product(a: u16, b: u16) -> u16
     ensures { result ≡ product_of a b }
 {
-    (a as u32 * b as u32 % 65536) as u16
+    a.wrapping_mul(b)
 }
 
 // The 16 bits of a word taken twice.
 pub fn doubled(a: u16) -> u16
     ensures { result ≡ doubled_of a }
 {
-    (a as u32 * 2 % 65536) as u16
+    a.wrapping_mul(2)
 }

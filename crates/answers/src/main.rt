@@ -1,89 +1,77 @@
 // Answers cases from standard input, one after another: a snapshot, then offer, program length and data length, then program and data.
 #![tactic(auto)]
 
-use std::io::{self, BufReader, BufWriter, Read, Write};
+use std::io::{self, BufReader, BufWriter, ErrorKind, Read, Write};
+
+// The input and the output, each behind a buffer.
+#[derive(Drop)]
+struct Pipe<R: Read + Drop, W: Write + Drop> {
+    input: BufReader<R>,
+    output: BufWriter<W>,
+}
+
+impl<R: Read + Drop, W: Write + Drop> Pipe<R, W> {
+    // Whether the input fills `bytes`. What was written goes out before a wait for input.
+    fn fill(&mut self, bytes: &mut [u8]) -> io::Result<bool> {
+        if self.input.buffer().len() < bytes.len() {
+            self.output.flush()?;
+        }
+        match self.input.read_exact(bytes) {
+            Ok(()) => Ok(true),
+            Err(e) if e.kind() == ErrorKind::UnexpectedEof => Ok(false),
+            Err(e) => Err(e),
+        }
+    }
+
+    // One case; whether another may follow. A length above the limits writes 255.
+    fn answer(&mut self, program: &mut [u8], data: &mut [u8]) -> io::Result<bool> {
+        let mut snapshot = [0u8; 38];
+        let mut numbers = [0u8; 12];
+        if !self.fill(&mut snapshot)? || !self.fill(&mut numbers)? {
+            return Ok(false);
+        }
+        let offer = number(&numbers, 0);
+        let size = number(&numbers, 4) as usize;
+        let room = number(&numbers, 8) as usize;
+        if size > program.len() || room > data.len() {
+            self.output.write_all(&[255])?;
+            return Ok(false);
+        }
+        let (program, data) = (&mut program[..size], &mut data[..room]);
+        if !self.fill(program)? || !self.fill(data)? {
+            return Ok(false);
+        }
+        let answer = host::avr_tick(&mut snapshot, program, data, offer);
+        self.output.write_all(&[(answer % 256) as u8])?;
+        self.output.write_all(&snapshot)?;
+        self.output.write_all(data)?;
+        Ok(true)
+    }
+}
 
 // The 32-bit number at `at`, high byte first.
 fn number(bytes: &[u8], at: u8) -> u32 {
-    let high = memory::read(bytes, at as usize) as u32 * 256
-        + memory::read(bytes, at as usize + 1) as u32;
-    let low = memory::read(bytes, at as usize + 2) as u32 * 256
-        + memory::read(bytes, at as usize + 3) as u32;
-    high * 65536 + low
-}
-
-// Fills `bytes`, as far as the input goes; how many bytes came. What was written goes out before a wait for input.
-fn fill<R: Read + Drop, W: Write + Drop>(
-    input: &mut BufReader<R>,
-    output: &mut BufWriter<W>,
-    bytes: &mut [u8],
-) -> io::Result<usize> {
-    let mut done = 0;
-    while done < bytes.len() {
-        if input.buffer().is_empty() {
-            output.flush()?;
-        }
-        let more = input.read(&mut bytes[done..])?;
-        if more == 0 {
-            return Ok(done);
-        }
-        done += more;
-    }
-    Ok(done)
-}
-
-// One case; whether another may follow. A length above the limits writes 255.
-fn answer<R: Read + Drop, W: Write + Drop>(
-    input: &mut BufReader<R>,
-    output: &mut BufWriter<W>,
-    program: &mut [u8],
-    data: &mut [u8],
-) -> io::Result<bool> {
-    let mut snapshot = [0u8; 38];
-    let mut numbers = [0u8; 12];
-    if fill(input, output, &mut snapshot)? < 38 || fill(input, output, &mut numbers)? < 12 {
-        return Ok(false);
-    }
-    let offer = number(&numbers, 0);
-    let size = number(&numbers, 4) as usize;
-    let room = number(&numbers, 8) as usize;
-    if size > program.len() || room > data.len() {
-        output.write_all(&[255])?;
-        return Ok(false);
-    }
-    let (program, data) = (&mut program[..size], &mut data[..room]);
-    tick(input, output, &mut snapshot, program, data, offer)
-}
-
-// The same of a case whose lengths are known.
-fn tick<R: Read + Drop, W: Write + Drop>(
-    input: &mut BufReader<R>,
-    output: &mut BufWriter<W>,
-    snapshot: &mut [u8],
-    program: &mut [u8],
-    data: &mut [u8],
-    offer: u32,
-) -> io::Result<bool> {
-    if fill(input, output, program)? < program.len() || fill(input, output, data)? < data.len() {
-        return Ok(false);
-    }
-    let answer = host::avr_tick(snapshot, program, data, offer);
-    output.write_all(&[(answer % 256) as u8])?;
-    output.write_all(snapshot)?;
-    output.write_all(data)?;
-    Ok(true)
+    let at = at as usize;
+    u32::from_be_bytes([
+        memory::read(bytes, at),
+        memory::read(bytes, at + 1),
+        memory::read(bytes, at + 2),
+        memory::read(bytes, at + 3),
+    ])
 }
 
 fn main(rt: HostRuntime) -> io::Result<()> {
-    let mut input = BufReader::with_capacity(rt.alloc(), 65536, rt.reader())?;
-    let mut output = BufWriter::with_capacity(rt.alloc(), 65536, io::writer(&rt))?;
+    let mut pipe = Pipe {
+        input: BufReader::with_capacity(rt.alloc(), 65536, rt.reader())?,
+        output: BufWriter::with_capacity(rt.alloc(), 65536, io::writer(&rt))?,
+    };
     let mut program = vec![in rt.alloc(); 0u8; 131072]?;
     let mut data = vec![in rt.alloc(); 0u8; 66000]?;
     // counted only so that the loop is shown to end
     for _ in 0..u64::MAX {
-        if !answer(&mut input, &mut output, &mut program, &mut data)? {
+        if !pipe.answer(&mut program, &mut data)? {
             break;
         }
     }
-    output.flush()
+    pipe.output.flush()
 }

@@ -4,7 +4,7 @@
 -- The two numbers lie in registers, wherever one likes: byte i of the first is in register d i, byte i of the second in register r i. The same register may be named twice, by one number or by both.
 -- p is a program, k a core before and j one behind, s core and data before, v what is offered by the tick's number, from 0, t such a number, n how many bytes, i a byte's number, from 0, x either
 -- of d and r, q a question.
-use Rattle.std.specs.Prelude.{◌≡◌, ◌↔◌, Bool, true, false, List, ℕ, zero, suc, ◌+◌, ◌*◌, ◌^◌, ◌-◌, ◌≤◌, ◌<◌, eqb, ltb, ℤ, pos}
+use Rattle.std.specs.Prelude.{◌≡◌, ◌↔◌, Bool, true, false, List, ℕ, zero, suc, ◌+◌, ◌*◌, ◌^◌, ◌-◌, ◌≤◌, ◌<◌, eqb, ltb, ℤ, pos, None}
 use Rattle.std.proofs.Math.IntN.{sub_ℕ}
 use Rattle.std.specs.Int.Signed.{lt_z}
 use Rattle.basis.specs.Pick.{pick}
@@ -16,7 +16,6 @@ use Rattle.memory.specs.Memory.{has_word_of}
 use Rattle.cores.specs.declared.Core.{Core}
 use Rattle.cores.specs.State.{reg, flag, Sound}
 use Rattle.cores.specs.Flow.{op_at}
-use Rattle.std.specs.Prelude.{None}
 use Rattle.interrupts.specs.Handlers.{First, handler_ticks}
 use Rattle.interrupts.specs.Interrupts.{State, Offers, Stretch, kept, pc, sp, after, number_at, enters, returns, Ended, Handled, Assumed, AssumedTo}
 

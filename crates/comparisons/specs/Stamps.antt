@@ -1,10 +1,9 @@
 -- W9 at work: time stamps of four bytes, in seconds, the first in R19:R16 and the second in R23:R20, are compared and branched on, with an interrupt at each place. Computed.
 -- a and b are stamps, chip the rule, q a question, t a tick's number, place the tick at which an interrupt comes: before CP, or behind each of the four.
-use Rattle.std.specs.Prelude.{◌≡◌, Bool, true, false, List, [], ◌∷◌, ℕ, ◌+◌, ◌/◌, ◌%◌, ◌<◌, eqb, replicate}
+use Rattle.std.specs.Prelude.{◌≡◌, Bool, true, false, List, [], ◌∷◌, ℕ, ◌+◌, ◌/◌, ◌%◌, ◌<◌, eqb, replicate, Some, None}
 use Rattle.basis.specs.Pick.{pick}
 use Rattle.cores.specs.declared.Core.{Core}
 use Rattle.cores.specs.State.{fresh_of, with_reg, with_sreg, with_chip}
-use Rattle.std.specs.Prelude.{Some, None}
 use Rattle.interrupts.specs.Interrupts.{State, Offers, no_offers, pc, after, AssumedTo}
 use Rattle.interrupts.specs.Stamps.{bytes_of}
 use Rattle.comparisons.specs.Comparisons.{Question, less, equal, signed_less, flag_of, Comparison, Branch, WithHandlers}

@@ -1,14 +1,13 @@
 -- 01, 'The core and its surroundings': "A core is 32 registers, SREG, PC (in words), SP, a busy count, the inhibit flag and the in-service flag."
 -- 02, W2: "Each core gets a rule choice, source or chip": chip is true under chip and false under source.
 -- A core's record is written out in this file alone.
-use Rattle.std.specs.Prelude.{◌≡◌, ℕ, ◌+◌, ◌/◌, ◌%◌, ◌<◌, ◌≤◌, Bool, false, not, List, length, replicate, nat_lt, slice_index, slice_set}
+use Rattle.std.specs.Prelude.{◌≡◌, ℕ, ◌+◌, ◌/◌, ◌%◌, ◌<◌, ◌≤◌, Bool, false, not, Result, Ok, Err, List, length, replicate, nat_lt, slice_index, slice_set}
 use Rattle.std.specs.Bool.{beq}
 use Rattle.basis.specs.Pick.{pick}
 use Rattle.basis.specs.Bit.{bit, put}
 use Rattle.memory.specs.Memory.{word_of}
 use Rattle.cores.specs.declared.Core.{Core}
-use Rattle.cores.specs.declared.RegisterRead.{RegisterRead}
-use Rattle.cores.specs.declared.RegisterSet.{RegisterSet}
+use Rattle.cores.specs.declared.NoRegister.{NoRegister}
 
 -- "A fresh core has registers, SREG, PC, busy and both flags zero, and the SP given." 02, W2: "fresh ones have source"
 unfoldable pub fresh_of : ℕ → Core
@@ -56,6 +55,15 @@ word k d = word_of k.regs d
 abbrev pub with_word : Core → ℕ → ℕ → Core
 with_word k d v = with_reg (with_reg k d (v % 256)) (d + 1) (v / 256)
 
+-- what a read and a set of a register answer: a refusal's number, and the byte or the core
+pub record RegisterRead : Type 0 where
+  pub refusal : ℕ
+  pub value : ℕ
+
+pub record RegisterSet : Type 0 where
+  pub refusal : ℕ
+  pub core : Core
+
 -- "6 refused: register number above 31 in read or set"; "a refused register read returns 0 with its number"; 0 is no refusal
 abbrev pub read_register_of : Core → ℕ → RegisterRead
 read_register_of k r = pick (nat_lt r 32) (record { refusal = 0; value = reg k r }) (record { refusal = 6; value = 0 })
@@ -63,6 +71,18 @@ read_register_of k r = pick (nat_lt r 32) (record { refusal = 0; value = reg k r
 -- "A refused call changes no core"
 abbrev pub set_register_of : Core → ℕ → ℕ → RegisterSet
 set_register_of k r v = pick (nat_lt r 32) (record { refusal = 0; core = with_reg k r v }) (record { refusal = 6; core = k })
+
+-- what the code's answers say in those numbers: "6 refused: register number above 31 in read or set"
+abbrev pub number_of : NoRegister → ℕ
+number_of e = 6
+
+abbrev pub said_register : Result ℕ NoRegister → RegisterRead
+said_register (Ok v) = record { refusal = 0; value = v }
+said_register (Err e) = record { refusal = number_of e; value = 0 }
+
+abbrev pub said_set : Core → Result Core NoRegister → RegisterSet
+said_set k (Ok k') = record { refusal = 0; core = k' }
+said_set k (Err e) = record { refusal = number_of e; core = k }
 
 -- ---- flags: "SREG bits 0 to 7 are C Z N V S H T I"
 abbrev pub flag : Core → ℕ → Bool

@@ -8,13 +8,12 @@ use crate::Core;
 use crate::lent::bits;
 
 impl Core {
-    pub fn asr(mut self, d: u8) -> Core
+    pub fn asr(self, d: u8) -> Core
         ensures { result ≡ asr_of self d }
     {
-        let mut regs = self.regs;
-        self.sreg = bits::asr(&mut regs, d, self.sreg);
-        self.regs = regs;
-        self
+        let Core { mut regs, sreg, .. } = self;
+        let sreg = bits::asr(&mut regs, d, sreg);
+        Core { regs, sreg, ..self }
     }
 
     pub fn bclr(self, b: u8) -> Core
@@ -26,13 +25,13 @@ impl Core {
     pub fn bld(mut self, d: u8, b: u8) -> Core
         ensures { result ≡ bld_of self d b }
     {
-        let mut regs = self.regs;
-        bits::bld(&mut regs, d, b, self.sreg);
-        self.regs = regs;
+        let sreg = self.sreg;
+        bits::bld(&mut self.regs, d, b, sreg);
         self
     }
 
     // Under chip the instruction behind SEI is safe, as the one behind RETI is.
+    #[tactic(auto, unfolding(crate::specs::State::with_inhibit))]
     pub fn bset(self, b: u8) -> Core
         ensures { result ≡ bset_of self b }
     {
@@ -41,12 +40,12 @@ impl Core {
         k
     }
 
-    pub fn bst(mut self, d: u8, bit: u8) -> Core
+    pub fn bst(self, d: u8, bit: u8) -> Core
         ensures { result ≡ bst_of self d bit }
     {
-        let regs = self.regs;
-        self.sreg = bits::bst(&regs, d, bit, self.sreg);
-        self
+        let Core { regs, sreg, .. } = self;
+        let sreg = bits::bst(&regs, d, bit, sreg);
+        Core { sreg, ..self }
     }
 
     // A is below 32, so the Rust's cases for SREG and SP are never reached.
@@ -57,22 +56,20 @@ impl Core {
         self
     }
 
-    pub fn lsr(mut self, d: u8) -> Core
+    pub fn lsr(self, d: u8) -> Core
         ensures { result ≡ lsr_of self d }
     {
-        let mut regs = self.regs;
-        self.sreg = bits::lsr(&mut regs, d, self.sreg);
-        self.regs = regs;
-        self
+        let Core { mut regs, sreg, .. } = self;
+        let sreg = bits::lsr(&mut regs, d, sreg);
+        Core { regs, sreg, ..self }
     }
 
-    pub fn ror(mut self, d: u8) -> Core
+    pub fn ror(self, d: u8) -> Core
         ensures { result ≡ ror_of self d }
     {
-        let mut regs = self.regs;
-        self.sreg = bits::ror(&mut regs, d, self.sreg);
-        self.regs = regs;
-        self
+        let Core { mut regs, sreg, .. } = self;
+        let sreg = bits::ror(&mut regs, d, sreg);
+        Core { regs, sreg, ..self }
     }
 
     pub fn sbi(self, A: u8, b: u8, data: &mut [u8]) -> Core
@@ -85,9 +82,7 @@ impl Core {
     pub fn swap(mut self, d: u8) -> Core
         ensures { result ≡ swap_of self d }
     {
-        let mut regs = self.regs;
-        bits::swap(&mut regs, d);
-        self.regs = regs;
+        bits::swap(&mut self.regs, d);
         self
     }
 }

@@ -30,11 +30,12 @@ use crate::lent::flow;
 use instruction::Instruction;
 
 impl Core {
+    #[tactic(auto, unfolding(crate::specs::Flow::brbx_of, crate::specs::State::with_pc, crate::specs::State::with_busy))]
     pub fn brbx(mut self, s: u8, k: u8, set: bool) -> Core
         ensures { result ≡ brbx_of self s k set }
     {
         if self.get_sreg_bit(s) == set {
-            self.pc = std::num::wrapping_add_u16(self.pc, alu::signed(k));
+            self.pc = self.pc.wrapping_add(alu::signed(k));
             self.busy = 1;
         }
         self
@@ -44,10 +45,10 @@ impl Core {
     pub fn push_word(mut self, value: u16, data: &mut [u8]) -> Core
         ensures { Leaves (word_pushed self value «data».old) result «data».new }
     {
-        memory::write(data, self.sp as usize, (value % 256) as u8);
-        let below = std::num::wrapping_sub_u16(self.sp, 1);
-        memory::write(data, below as usize, (value / 256) as u8);
-        self.sp = std::num::wrapping_sub_u16(self.sp, 2);
+        let [low, high] = value.to_le_bytes();
+        memory::write(data, self.sp as usize, low);
+        memory::write(data, self.sp.wrapping_sub(1) as usize, high);
+        self.sp = self.sp.wrapping_sub(2);
         self
     }
 
@@ -55,7 +56,7 @@ impl Core {
     pub fn over_second(mut self) -> Core
         ensures { result ≡ over_second self }
     {
-        self.pc = std::num::wrapping_add_u16(self.pc, 1);
+        self.pc = self.pc.wrapping_add(1);
         self
     }
 
@@ -73,7 +74,7 @@ impl Core {
         ensures { Leaves (call_of self k «data».old) result «data».new }
     {
         // PC + 1 because we already incremented the PC
-        let back = std::num::wrapping_add_u16(self.pc, 1);
+        let back = self.pc.wrapping_add(1);
         self.subroutine(back, (k % 65536) as u16, 2, data)
     }
 
@@ -83,24 +84,25 @@ impl Core {
         self.cpi(d, self.get_register(r))
     }
 
-    pub fn cpc(mut self, d: u8, r: u8) -> Core
+    pub fn cpc(self, d: u8, r: u8) -> Core
         ensures { result ≡ cpc_of self d (reg self r) }
     {
         let Rr = self.get_register(r);
-        let regs = self.regs;
-        self.sreg = flow::cpc(&regs, d, Rr, self.sreg);
-        self
+        let Core { regs, sreg, .. } = self;
+        let sreg = flow::cpc(&regs, d, Rr, sreg);
+        Core { sreg, ..self }
     }
 
-    pub fn cpi(mut self, d: u8, K: u8) -> Core
+    pub fn cpi(self, d: u8, K: u8) -> Core
         ensures { result ≡ cp_of self d K }
     {
-        let regs = self.regs;
-        self.sreg = flow::cp(&regs, d, K, self.sreg);
-        self
+        let Core { regs, sreg, .. } = self;
+        let sreg = flow::cp(&regs, d, K, sreg);
+        Core { sreg, ..self }
     }
 
     // Over the instruction at PC, of one word or of two.
+    #[tactic(auto, unfolding(crate::specs::Flow::skipped, crate::specs::State::with_pc, crate::specs::State::with_busy))]
     fn skip(mut self, taken: bool, program: &[u8]) -> Core
         ensures { result ≡ skipped self taken (two_at decode_of self program.now) }
     {
@@ -108,7 +110,7 @@ impl Core {
             let opcode = memory::get_progmem(program, self.pc as u32);
             let prefetch = memory::get_progmem(program, self.pc as u32 + 1);
             let words = 1 + Instruction::decode(opcode, prefetch).two_words() as u8;
-            self.pc = std::num::wrapping_add_u16(self.pc, words as u16);
+            self.pc = self.pc.wrapping_add(words as u16);
             self.busy = words;
         }
         self
@@ -154,7 +156,7 @@ impl Core {
         ensures { Leaves (rcall_of self k «data».old) result «data».new }
     {
         // PC + 0 because we already incremented the PC
-        let target = std::num::wrapping_add_u16(self.pc, k);
+        let target = self.pc.wrapping_add(k);
         self.subroutine(self.pc, target, 1, data)
     }
 
@@ -162,13 +164,14 @@ impl Core {
         ensures { result ≡ ret_of self «data».now }
     {
         self.busy = 3; // 16-bit PC, not AVRrc
-        let bh = memory::read(data, std::num::wrapping_add_u16(self.sp, 1) as usize);
-        self.sp = std::num::wrapping_add_u16(self.sp, 2);
+        let bh = memory::read(data, self.sp.wrapping_add(1) as usize);
+        self.sp = self.sp.wrapping_add(2);
         let bl = memory::read(data, self.sp as usize);
-        self.pc = bh as u16 * 256 + bl as u16;
+        self.pc = u16::from_le_bytes([bl, bh]);
         self
     }
 
+    #[tactic(auto, unfolding(crate::specs::State::with_inhibit, crate::specs::State::with_service, crate::specs::State::with_sp, crate::specs::State::with_pc, crate::specs::State::with_busy))]
     pub fn reti(self, data: &[u8]) -> Core
         ensures { result ≡ reti_of self «data».now }
     {
@@ -183,7 +186,7 @@ impl Core {
     pub fn rjmp(self, k: u16) -> Core
         ensures { result ≡ rjmp_of self k }
     {
-        self.jump(std::num::wrapping_add_u16(self.pc, k), 1)
+        self.jump(self.pc.wrapping_add(k), 1)
     }
 
     // A byte that isn't in data counts as not so.

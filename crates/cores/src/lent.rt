@@ -14,6 +14,7 @@ pub mod products;
 pub fn put_word(regs: &mut [u8], d: u8, value: u16)
     ensures { regs.new ≡ (with_word (holding regs.old) d value).regs }
 {
-    memory::write(regs, d as usize, (value % 256) as u8);
-    memory::write(regs, d as usize + 1, (value / 256) as u8);
+    let [low, high] = value.to_le_bytes();
+    memory::write(regs, d as usize, low);
+    memory::write(regs, d as usize + 1, high);
 }

@@ -1,5 +1,5 @@
 // The Rust's `Core`, by value: a core goes in and its successor comes back. Program and data are lent to the handlers that use them.
-#![tactic(auto)]
+#![tactic(auto, unfolding(crate::specs::State::with_regs, crate::specs::State::with_reg, crate::specs::State::with_pc, crate::specs::State::with_sp, crate::specs::State::with_busy, crate::specs::State::with_chip))]
 
 ghost use Rattle.std.specs.Prelude.{◌≡◌};
 ghost use Rattle.cores.specs.State.{
@@ -11,7 +11,9 @@ ghost use Rattle.cores.specs.State.{
   with_sreg,
   with_chip,
   flag,
+  said_register,
   read_register_of,
+  said_set,
   set_register_of,
 };
 ghost use Rattle.basis.specs.Bit.{put};
@@ -37,18 +39,9 @@ pub struct Core {
     pub chip: bool, // 02's rule choice: chip, or source where false
 }
 
-// The refusal is 0 or 6.
-#[derive(Clone, Copy)]
-pub struct RegisterRead {
-    pub refusal: u8,
-    pub value: u8,
-}
-
-#[derive(Clone, Copy)]
-pub struct RegisterSet {
-    pub refusal: u8,
-    pub core: Core,
-}
+// The refusal of a register number above 31.
+#[derive(Clone, Copy, Debug, PartialEq, Eq)]
+pub struct NoRegister;
 
 impl Core {
     // The Rust's `BitSREG`.
@@ -68,6 +61,7 @@ impl Core {
 
     pub const I: u8 = 7;
 
+    #[tactic(auto, unfolding(crate::specs::State::fresh_of))]
     pub fn fresh(sp: u16) -> Core
         ensures { result ≡ fresh_of sp }
     {
@@ -91,43 +85,27 @@ impl Core {
         self
     }
 
-    pub fn read_register(self, register: u8) -> RegisterRead
-        ensures { result ≡ read_register_of self register }
+    pub fn read_register(self, register: u8) -> Result<u8, NoRegister>
+        ensures { said_register result ≡ read_register_of self register }
+    {
+        self.regs.get(register as usize).copied().ok_or(NoRegister)
+    }
+
+    pub fn set_register(self, register: u8, value: u8) -> Result<Core, NoRegister>
+        ensures { said_set self result ≡ set_register_of self register value }
     {
         if register < 32 {
-            RegisterRead {
-                refusal: 0,
-                value: self.get_register(register),
-            }
+            Ok(self.put_register(register, value))
         } else {
-            RegisterRead {
-                refusal: 6,
-                value: 0,
-            }
+            Err(NoRegister)
         }
     }
 
-    pub fn set_register(self, register: u8, value: u8) -> RegisterSet
-        ensures { result ≡ set_register_of self register value }
-    {
-        if register < 32 {
-            RegisterSet {
-                refusal: 0,
-                core: self.put_register(register, value),
-            }
-        } else {
-            RegisterSet {
-                refusal: 6,
-                core: self,
-            }
-        }
-    }
-
-    // A register's byte, and 0 above 31.
+    // A register's byte, and 0 above 31. Where `self.regs` itself is lent, a tick over `Core` takes up to 13 instructions more.
     pub fn get_register(self, register: u8) -> u8
         ensures { result ≡ reg self register }
     {
-        let regs = self.regs;
+        let Core { regs, .. } = self;
         memory::read(&regs, register as usize)
     }
 
@@ -135,25 +113,21 @@ impl Core {
     pub fn put_register(mut self, register: u8, value: u8) -> Core
         ensures { result ≡ with_reg self register value }
     {
-        let mut regs = self.regs;
-        memory::write(&mut regs, register as usize, value);
-        self.regs = regs;
+        memory::write(&mut self.regs, register as usize, value);
         self
     }
 
     pub fn get_register_word(self, low: u8) -> u16
         ensures { result ≡ word self low }
     {
-        let regs = self.regs;
+        let Core { regs, .. } = self;
         memory::read_word(&regs, low as usize)
     }
 
     pub fn set_register_word(mut self, low: u8, value: u16) -> Core
         ensures { result ≡ with_word self low value }
     {
-        let mut regs = self.regs;
-        lent::put_word(&mut regs, low, value);
-        self.regs = regs;
+        lent::put_word(&mut self.regs, low, value);
         self
     }
 

@@ -20,38 +20,41 @@ ghost use Rattle.cores.specs.Transfer.{
 use crate::{Core, pointer};
 
 // Whether get_data_space and set_data_space find something at an address.
+#[tactic(auto, unfolding(crate::specs::Transfer::reach_of))]
 pub fn in_data_space(address: usize, data: &[u8]) -> bool
     ensures { result ≡ reach_of address (length «data».now) }
 {
     match address {
-        0x3F => true,
-        0x3E => true,
-        0x3D => true,
+        0x3D..=0x3F => true,
         _ => address < data.len(),
     }
 }
 
 impl Core {
     // The Rust's get_io_register too: below 64 the two agree.
+    #[tactic(auto, unfolding(crate::specs::Transfer::data_of))]
     pub fn get_data_space(self, address: usize, data: &[u8]) -> u8
         ensures { result ≡ data_of self address «data».now }
     {
+        let [low, high] = self.sp.to_le_bytes();
         match address {
             0x3F => self.sreg, // CPU.SREG
-            0x3E => (self.sp / 256) as u8, // CPU.SPH
-            0x3D => (self.sp % 256) as u8, // CPU.SPL
+            0x3E => high, // CPU.SPH
+            0x3D => low, // CPU.SPL
             _ => memory::read(data, address),
         }
     }
 
     // The Rust's set_io_register too.
+    #[tactic(auto, unfolding(crate::specs::Transfer::set_data_of, crate::specs::State::with_sp))]
     pub fn set_data_space(mut self, address: usize, value: u8, data: &mut [u8]) -> Core
         ensures { Leaves (set_data_of self address value «data».old) result «data».new }
     {
+        let [low, high] = self.sp.to_le_bytes();
         match address {
             0x3F => self.sreg = value, // CPU.SREG
-            0x3E => self.sp = value as u16 * 256 + self.sp % 256, // CPU.SPH
-            0x3D => self.sp = self.sp / 256 * 256 + value as u16, // CPU.SPL
+            0x3E => self.sp = u16::from_le_bytes([low, value]), // CPU.SPH
+            0x3D => self.sp = u16::from_le_bytes([value, high]), // CPU.SPL
             _ => memory::write(data, address, value),
         }
         self
@@ -64,17 +67,19 @@ impl Core {
     }
 
     // The pointer, one lower where dec.
+    #[tactic(auto, unfolding(crate::specs::Transfer::pointed_of))]
     pub fn pointed(self, pointer: u8, dec: bool) -> u16
         ensures { result ≡ pointed_of self pointer dec }
     {
         let address = self.get_register_word(pointer);
         if dec {
-            std::num::wrapping_sub_u16(address, 1)
+            address.wrapping_sub(1)
         } else {
             address
         }
     }
 
+    #[tactic(auto, unfolding(crate::specs::Transfer::word_if))]
     fn set_word_if(self, on: bool, pointer: u8, address: u16) -> Core
         ensures { result ≡ word_if self on pointer address }
     {
@@ -93,7 +98,7 @@ impl Core {
         let k = self.set_word_if(dec, pointer, address);
         let value = k.get_data_space(address as usize + q as usize, data);
         k.put_register(d, value)
-            .set_word_if(inc, pointer, std::num::wrapping_add_u16(address, 1))
+            .set_word_if(inc, pointer, address.wrapping_add(1))
     }
 
     pub fn st(mut self, r: u8, pointer: u8, q: u8, dec: bool, inc: bool, data: &mut [u8]) -> Core
@@ -103,7 +108,7 @@ impl Core {
         let address = self.pointed(pointer, dec);
         let k = self.set_word_if(dec, pointer, address);
         let k = k.set_data_space(address as usize + q as usize, k.get_register(r), data);
-        k.set_word_if(inc, pointer, std::num::wrapping_add_u16(address, 1))
+        k.set_word_if(inc, pointer, address.wrapping_add(1))
     }
 
     pub fn ldi(self, d: u8, K: u8) -> Core
@@ -112,6 +117,7 @@ impl Core {
         self.put_register(d, K)
     }
 
+    #[tactic(auto, unfolding(crate::specs::State::with_busy, crate::specs::Transfer::data_of))]
     pub fn lds(mut self, d: u8, k: u16, data: &[u8]) -> Core
         ensures { result ≡ lds_of self d k «data».now }
     {
@@ -125,7 +131,7 @@ impl Core {
         self.busy = 2;
         let address = self.get_register_word(pointer::Z);
         self.put_register(d, memory::read(program, address as usize))
-            .set_word_if(inc, pointer::Z, std::num::wrapping_add_u16(address, 1))
+            .set_word_if(inc, pointer::Z, address.wrapping_add(1))
     }
 
     pub fn mov(self, d: u8, r: u8) -> Core
@@ -150,7 +156,7 @@ impl Core {
         ensures { result ≡ pop_of self d «data».now }
     {
         self.busy = 1; // 2 for AVRrc
-        self.sp = std::num::wrapping_add_u16(self.sp, 1);
+        self.sp = self.sp.wrapping_add(1);
         self.put_register(d, self.get_data_space(self.sp as usize, data))
     }
 
@@ -158,7 +164,7 @@ impl Core {
         ensures { Leaves (push_of self r «data».old) result «data».new }
     {
         let mut k = self.set_data_space(self.sp as usize, self.get_register(r), data);
-        k.sp = std::num::wrapping_sub_u16(k.sp, 1);
+        k.sp = k.sp.wrapping_sub(1);
         k
     }
 

@@ -20,73 +20,53 @@ fn words_at(image: &[u8], pc: u16) -> Words {
     }
 }
 
-fn added(count: u64, one: bool, another: bool) -> u64 {
-    std::num::wrapping_add_u64(
-        std::num::wrapping_add_u64(count, one as u64),
-        another as u64,
-    )
+// How many of two words have a second one. A decoder that is called from one place alone would become part of the loop, without the fields that nobody reads.
+fn by<D: Fn(u16, u16) -> Instruction>(decode: D, words: Words) -> u64
+    requires { D.IsAlwaysCallable decode }
+{
+    let op = decode(words.first, words.second);
+    let next = decode(words.second, words.third);
+    op.two_words() as u64 + next.two_words() as u64
 }
 
-// ---- two words, each way: a decoder that is called from one place alone would become part of the loop, without the fields that nobody reads
-fn by_decode(words: Words, count: u64) -> u64 {
-    let op = Instruction::decode(words.first, words.second);
-    let next = Instruction::decode(words.second, words.third);
-    added(count, op.two_words(), next.two_words())
-}
-
-fn by_table(table: &[u8], words: Words, count: u64) -> u64 {
-    let op = table_decode::decode(table, words.first, words.second);
-    let next = table_decode::decode(table, words.second, words.third);
-    added(count, op.two_words(), next.two_words())
-}
-
-fn anew(opcode: u16, prefetch: u16) -> Instruction {
-    let table = form_table::forms();
-    table_decode::decode(&table, opcode, prefetch)
-}
-
-fn by_table_anew(words: Words, count: u64) -> u64 {
-    let op = anew(words.first, words.second);
-    let next = anew(words.second, words.third);
-    added(count, op.two_words(), next.two_words())
-}
-
-fn by_nothing(words: Words, count: u64) -> u64 {
-    added(
-        count,
-        words.first > words.second,
-        words.second > words.third,
-    )
-}
-
-fn turn(way: u8, table: &[u8], words: Words, count: u64) -> u64 {
-    match way {
-        0 => by_decode(words, count),
-        1 => by_table(table, words, count),
-        2 => by_table_anew(words, count),
-        _ => by_nothing(words, count),
-    }
+fn by_nothing(words: Words) -> u64 {
+    (words.first > words.second) as u64 + (words.second > words.third) as u64
 }
 
 // Once over the image, two words a turn; an odd last word is left out.
-fn pass(way: u8, table: &[u8], image: &[u8], before: u64) -> u64 {
+fn pass<T: Fn(Words) -> u64>(turn: &T, image: &[u8], before: u64) -> u64
+    requires { T.IsAlwaysCallable turn.now }
+{
     let mut count = before;
     for pair in 0..32768u16 {
         if !memory::has_word(image, pair as u32 * 2 + 1) {
             return count;
         }
-        count = turn(way, table, words_at(image, pair * 2), count);
+        count = count.wrapping_add(turn(words_at(image, pair * 2)));
     }
     count
 }
 
-fn passes(way: u8, times: u16, image: &[u8]) -> u64 {
-    let table = form_table::forms();
+fn passes<T: Fn(Words) -> u64>(turn: T, times: u16, image: &[u8]) -> u64
+    requires { T.IsAlwaysCallable turn }
+{
     let mut count = 0u64;
     for _ in 0..times {
-        count = pass(way, &table, image, count);
+        count = pass(&turn, image, count);
     }
     count
+}
+
+fn counted(way: u8, times: u16, image: &[u8]) -> u64 {
+    let table = form_table::forms();
+    let by_table = |first, second| table_decode::decode(&table, first, second);
+    let anew = |first, second| table_decode::decode(&form_table::forms(), first, second);
+    match way {
+        0 => passes(|words| by(Instruction::decode, words), times, image),
+        1 => passes(|words| by(by_table, words), times, image),
+        2 => passes(|words| by(anew, words), times, image),
+        _ => passes(by_nothing, times, image),
+    }
 }
 
 fn main(rt: HostRuntime) -> io::Result<()> {
@@ -95,5 +75,5 @@ fn main(rt: HostRuntime) -> io::Result<()> {
     let way = memory::read(&input, 0);
     let times = memory::read_word(&[memory::read(&input, 2), memory::read(&input, 1)], 0);
     let image = input.get(3..).unwrap_or(&[]);
-    rt.print(passes(way, times, image))
+    rt.print(counted(way, times, image))
 }

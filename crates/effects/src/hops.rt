@@ -47,7 +47,7 @@ pub(crate) fn hop(taken: bool, pc: u16, opcode: u16) -> u16
     ensures { result ≡ pick taken (up pc (signed_of (k7 opcode))) pc }
 {
     if taken {
-        std::num::wrapping_add_u16(pc, alu::signed(k7(opcode)))
+        pc.wrapping_add(alu::signed(k7(opcode)))
     } else {
         pc
     }

@@ -34,6 +34,7 @@ pub struct Step {
 }
 
 // The instruction of a form, by its word and the one at PC, which is behind it already. In the order of the Rust's `tick`.
+// A `Step` in the place of the five parts of the core was tried: 59 instructions a tick of heat_index in a run, against 53.
 pub fn effect(
     form: u8,
     opcode: u16,
@@ -66,13 +67,13 @@ pub fn effect(
             left.busy = taken as u8;
         }
         CALL => {
-            left.sp = push_word(sp0, std::num::wrapping_add_u16(pc, 1), data);
+            left.sp = push_word(sp0, pc.wrapping_add(1), data);
             pc = target(opcode, program, pc);
             left.busy = 2;
         }
         CPSE => {
             left.busy = words_over(equal(regs, opcode), program, pc);
-            pc = std::num::wrapping_add_u16(pc, left.busy as u16);
+            pc = pc.wrapping_add(left.busy as u16);
         }
         ICALL => {
             left.sp = push_word(sp0, pc, data);
@@ -89,40 +90,40 @@ pub fn effect(
         }
         RCALL => {
             left.sp = push_word(sp0, pc, data);
-            pc = std::num::wrapping_add_u16(pc, k12(opcode));
+            pc = pc.wrapping_add(k12(opcode));
             left.busy = 1;
         }
         RET => {
             pc = pop_word(sp0, data);
-            left.sp = std::num::wrapping_add_u16(sp0, 2);
+            left.sp = sp0.wrapping_add(2);
             left.busy = 3;
         }
         RETI => {
             pc = pop_word(sp0, data);
-            left.sp = std::num::wrapping_add_u16(sp0, 2);
+            left.sp = sp0.wrapping_add(2);
             left.busy = 3;
             in_service = false;
             inhibit = true;
         }
         RJMP => {
-            pc = std::num::wrapping_add_u16(pc, k12(opcode));
+            pc = pc.wrapping_add(k12(opcode));
             left.busy = 1;
         }
         SBIC => {
             left.busy = words_over(data_bit_is(data, opcode, false), program, pc);
-            pc = std::num::wrapping_add_u16(pc, left.busy as u16);
+            pc = pc.wrapping_add(left.busy as u16);
         }
         SBIS => {
             left.busy = words_over(data_bit_is(data, opcode, true), program, pc);
-            pc = std::num::wrapping_add_u16(pc, left.busy as u16);
+            pc = pc.wrapping_add(left.busy as u16);
         }
         SBRC => {
             left.busy = words_over(register_bit_is(regs, opcode, false), program, pc);
-            pc = std::num::wrapping_add_u16(pc, left.busy as u16);
+            pc = pc.wrapping_add(left.busy as u16);
         }
         SBRS => {
             left.busy = words_over(register_bit_is(regs, opcode, true), program, pc);
-            pc = std::num::wrapping_add_u16(pc, left.busy as u16);
+            pc = pc.wrapping_add(left.busy as u16);
         }
         // Data Transfer Instructions
         IN => load_to(regs, opcode, A6(opcode) as usize, sreg0, sp0, data),
@@ -145,20 +146,20 @@ pub fn effect(
             let at = memory::get_progmem(program, pc as u32);
             load_to(regs, opcode, at as usize, sreg0, sp0, data);
             left.busy = 2;
-            pc = std::num::wrapping_add_u16(pc, 1);
+            pc = pc.wrapping_add(1);
         }
         LPM => left.busy = lpm(regs, 0, false, program),
         LPMZ => left.busy = lpm(regs, d5(opcode), false, program),
         LPMZinc => left.busy = lpm(regs, d5(opcode), true, program),
         OUT => left = store_from(regs, opcode, A6(opcode) as usize, sreg0, sp0, data),
         POP => {
-            left.sp = std::num::wrapping_add_u16(sp0, 1);
+            left.sp = sp0.wrapping_add(1);
             left.busy = 1;
             load_to(regs, opcode, left.sp as usize, sreg0, left.sp, data);
         }
         PUSH => {
             left = store_from(regs, opcode, sp0 as usize, sreg0, sp0, data);
-            left.sp = std::num::wrapping_sub_u16(left.sp, 1);
+            left.sp = left.sp.wrapping_sub(1);
         }
         STX => left = st(regs, opcode, X, 0, false, false, sreg0, sp0, chip, data),
         STXdec => left = st(regs, opcode, X, 0, true, false, sreg0, sp0, chip, data),
@@ -179,7 +180,7 @@ pub fn effect(
             let at = memory::get_progmem(program, pc as u32);
             left = store_from(regs, opcode, at as usize, sreg0, sp0, data);
             left.busy = 1;
-            pc = std::num::wrapping_add_u16(pc, 1);
+            pc = pc.wrapping_add(1);
         }
         // Bit and Bit-Test Instructions
         CBI => set_io_bit(data, opcode, false),

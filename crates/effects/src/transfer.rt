@@ -1,4 +1,5 @@
 // DATA TRANSFER INSTRUCTIONS over lent registers, in the order of cores.rs, by the instruction's word. 0x3D to 0x3F are SP and SREG, the lent bytes stand everywhere else.
+// The same as methods that take a core by value, which the documents ask for, stand in crates/cores; a fast run has no core to copy.
 ghost use Rattle.std.specs.Prelude.{◌≡◌, ◌+◌, slice_index, slice_set};
 ghost use Rattle.basis.specs.Bit.{up};
 ghost use Rattle.instruction.specs.Decode.{d5, A5, b3};
@@ -83,7 +84,7 @@ pub fn pointed(regs: &[u8], pointer: u8, dec: bool) -> u16
 {
     let address = memory::read_word(regs, pointer as usize);
     if dec {
-        std::num::wrapping_sub_u16(address, 1)
+        address.wrapping_sub(1)
     } else {
         address
     }
@@ -116,7 +117,7 @@ pub(crate) fn ld(
     set_word_if(regs, dec, pointer, address);
     let value = get_data_space(address as usize + q as usize, sreg, sp, data);
     memory::write(regs, d5(opcode) as usize, value);
-    set_word_if(regs, inc, pointer, std::num::wrapping_add_u16(address, 1));
+    set_word_if(regs, inc, pointer, address.wrapping_add(1));
     rule::load_waits(chip)
 }
 
@@ -139,7 +140,7 @@ pub(crate) fn st(
     let address = pointed(regs, pointer, dec);
     set_word_if(regs, dec, pointer, address);
     let stored = store_from(regs, opcode, address as usize + q as usize, sreg, sp, data);
-    set_word_if(regs, inc, pointer, std::num::wrapping_add_u16(address, 1));
+    set_word_if(regs, inc, pointer, address.wrapping_add(1));
     leaves(stored.sreg, stored.sp, rule::store_waits(chip))
 }
 
@@ -149,12 +150,7 @@ pub(crate) fn lpm(regs: &mut [u8], d: u8, inc: bool, program: &[u8]) -> u8
 {
     let address = memory::read_word(regs, pointer::Z as usize);
     memory::write(regs, d as usize, memory::read(program, address as usize));
-    set_word_if(
-        regs,
-        inc,
-        pointer::Z,
-        std::num::wrapping_add_u16(address, 1),
-    );
+    set_word_if(regs, inc, pointer::Z, address.wrapping_add(1));
     2
 }
 

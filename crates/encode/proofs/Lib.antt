@@ -1,3 +1,2 @@
--- `Inside`: what a layout hands back. `Computed`: the examples.
-pub mod Inside
+-- `Computed`: the examples, computed.
 pub mod Computed

@@ -1,12 +1,19 @@
 -- 02, W8: "an encoder from an instruction to its one or two words. .. Refusals: 33 an operand outside its field, 34 undefined or LSL has no encoding."
 -- The letters of fields are those of the patterns of `decode`; o is a pattern with 0 for its letters. That these are the words that decode to the instruction is proved in the crate `round_trip`.
-use Rattle.std.specs.Prelude.{Bool, ◌&&◌, ◌||◌, ℕ, ◌+◌, ◌*◌, ◌/◌, ◌%◌, eqb, ltb, leb}
+use Rattle.std.specs.Prelude.{Bool, ◌&&◌, ◌||◌, ℕ, ◌+◌, ◌*◌, ◌/◌, ◌%◌, eqb, ltb, leb, Result, Ok, Err, if◌then◌else◌}
 use Rattle.basis.specs.Pick.{pick}
 use Rattle.instruction.specs.declared.Instruction.{Instruction}
 use Rattle.instruction.specs.declared.Instruction.TheVariants.{ADC, ADD, ADIW, AND, ANDI, ASR, BCLR, BLD, BRBC, BRBS, BREAK, BSET, BST, CALL, CBI, COM, CP, CPC, CPI, CPSE, DEC, EOR, FMUL, FMULS, FMULSU, ICALL, IJMP, IN, INC, JMP, LDX, LDXinc, LDXdec, LDYinc, LDYdec, LDZinc, LDZdec, LDDY, LDDZ, LDI, LDS, LPM, LPMZ, LPMZinc, LSL, LSR, MOV, MOVW, MUL, MULS, MULSU, NEG, NOP, OR, ORI, OUT, POP, PUSH, RCALL, RET, RETI, RJMP, ROR, SBC, SBCI, SBI, SBIC, SBIS, SBIW, SBRC, SBRS, SLEEP, STX, STXdec, STXinc, STYdec, STYinc, STZdec, STZinc, STDY, STDZ, STS, SUB, SUBI, SWAP, WDR, UNDEF}
-use Rattle.encode.specs.declared.Encoded.{Encoded}
+use Rattle.encode.specs.declared.Refusal.{Refusal}
+use Rattle.encode.specs.declared.Words.{Words}
 
--- ---- what an encoder hands back
+-- ---- what an encoder hands back: 0, or why there are no words; how many there are; and the words, 0 where there is none
+pub record Encoded : Type 0 where
+  pub refusal : ℕ
+  pub words : ℕ
+  pub first : ℕ
+  pub second : ℕ
+
 abbrev pub refused : ℕ → Encoded
 refused n = record { refusal = n; words = 0; first = 0; second = 0 }
 
@@ -16,6 +23,21 @@ in_one inside first = pick inside (record { refusal = 0; words = 1; first = firs
 
 abbrev pub in_two : Bool → ℕ → ℕ → Encoded
 in_two inside first second = pick inside (record { refusal = 0; words = 2; first = first; second = second }) (refused 33)
+
+-- "Refusals: 33 an operand outside its field, 34 undefined or LSL has no encoding."
+abbrev pub number_of : Refusal → ℕ
+number_of Refusal.Outside = 33
+number_of Refusal.NoEncoding = 34
+
+-- a result in these words
+abbrev pub said : Result Words Refusal → Encoded
+said (Ok (Words.One w)) = record { refusal = 0; words = 1; first = w; second = 0 }
+said (Ok (Words.Two w s)) = record { refusal = 0; words = 2; first = w; second = s }
+said (Err e) = refused (number_of e)
+
+-- a field by itself
+abbrev pub field_of : Bool → ℕ → Result ℕ Refusal
+field_of inside x = if inside then Ok x else Err Refusal.Outside
 
 -- ---- the fields that not every number is inside of
 -- R0 to R31

@@ -1,66 +1,58 @@
-// The fields that not every number is inside of.
-ghost use Rattle.std.specs.Prelude.{◌≡◌};
-ghost use Rattle.encode.specs.Encode.{
-  is_register,
-  is_high,
-  is_low,
-  is_pair,
-  is_last_pair,
-  is_bit,
-  is_offset7,
-  is_offset12,
-};
+// The fields that not every number is inside of, as words.
+ghost use Rattle.std.specs.Prelude.{◌≡◌, ◌&&◌, ◌%◌, eqb, ltb, leb};
+ghost use Rattle.encode.specs.Encode.{field_of, is_offset7, is_offset12};
 
-// R0 to R31.
-pub(crate) fn is_register(d: u8) -> bool
-    ensures { result ≡ is_register d }
-{
-    d < 32
-}
+use crate::Refusal;
+use std::ops::Range;
 
-// R16 to R31.
-pub(crate) fn is_high(d: u8) -> bool
-    ensures { result ≡ is_high d }
-{
-    (d >= 16) & (d < 32)
-}
+// R0 to R31; R16 to R31; R16 to R23; and R24 to R31, of which ADIW and SBIW name the pairs.
+pub(crate) const REGISTERS: Range<u8> = 0..32;
 
-// R16 to R23.
-pub(crate) fn is_low(d: u8) -> bool
-    ensures { result ≡ is_low d }
+pub(crate) const HIGH: Range<u8> = 16..32;
+
+pub(crate) const LOW: Range<u8> = 16..24;
+
+pub(crate) const LAST: Range<u8> = 24..32;
+
+// Bits of a byte; numbers of five bits, and of six.
+pub(crate) const BITS: Range<u8> = 0..8;
+
+pub(crate) const FIVE: Range<u8> = 0..32;
+
+pub(crate) const SIX: Range<u8> = 0..64;
+
+pub(crate) fn within(field: Range<u8>, x: u8) -> Result<u16, Refusal>
+    ensures { result ≡ field_of (leb field.start x && ltb x field.end) x }
 {
-    (d >= 16) & (d < 24)
+    inside(field.contains(&x), x as u16)
 }
 
 // The lower register of a pair.
-pub(crate) fn is_pair(d: u8) -> bool
-    ensures { result ≡ is_pair d }
+pub(crate) fn pair(field: Range<u8>, d: u8) -> Result<u16, Refusal>
+    ensures { result ≡ field_of (leb field.start d && (ltb d field.end && eqb (d % 2) 0)) d }
 {
-    (d < 32) & (d % 2 == 0)
-}
-
-// The lower register of one of the last four pairs.
-pub(crate) fn is_last_pair(d: u8) -> bool
-    ensures { result ≡ is_last_pair d }
-{
-    (d >= 24) & is_pair(d)
-}
-
-pub(crate) fn is_bit(b: u8) -> bool
-    ensures { result ≡ is_bit b }
-{
-    b < 8
+    inside(field.contains(&d) & (d % 2 == 0), d as u16)
 }
 
 // Offsets in two's complement, of 7 bits as a byte and of 12 bits as a word.
-pub(crate) fn is_offset7(k: u8) -> bool
-    ensures { result ≡ is_offset7 k }
+pub(crate) fn offset7(k: u8) -> Result<u16, Refusal>
+    ensures { result ≡ field_of (is_offset7 k) k }
 {
-    (k < 64) | (k >= 192)
+    inside((k < 64) | (k >= 192), k as u16)
 }
 
-pub(crate) fn is_offset12(k: u16) -> bool
-    ensures { result ≡ is_offset12 k }
+pub(crate) fn offset12(k: u16) -> Result<u16, Refusal>
+    ensures { result ≡ field_of (is_offset12 k) k }
 {
-    (k < 2048) | (k >= 63488)
+    inside((k < 2048) | (k >= 63488), k)
+}
+
+fn inside(test: bool, field: u16) -> Result<u16, Refusal>
+    ensures { result ≡ field_of test field }
+{
+    if test {
+        Ok(field)
+    } else {
+        Err(Refusal::Outside)
+    }
 }

@@ -2,7 +2,7 @@
 #![tactic(auto)]
 
 ghost use Rattle.std.specs.Prelude.{◌≡◌};
-ghost use Rattle.encode.specs.Encode.{refused, encode_of};
+ghost use Rattle.encode.specs.Encode.{said, encode_of};
 
 use instruction::Instruction;
 use layout::*;
@@ -10,21 +10,22 @@ use layout::*;
 mod field;
 mod layout;
 
-#[derive(Clone, Copy)]
-pub struct Encoded {
-    pub refusal: u8, // 0, or why there are no words
-    pub words: u8, // 1 or 2; 0 where there are none
-    pub first: u16,
-    pub second: u16, // 0 where there is none
+#[derive(Clone, Copy, Debug, PartialEq, Eq)]
+pub enum Words {
+    One(u16),
+    Two(u16, u16),
 }
 
-pub const OUTSIDE: u8 = 33; // an operand outside its field
-
-pub const NO_ENCODING: u8 = 34; // UNDEF and LSL, whatever their operands
+#[derive(Clone, Copy, Debug, PartialEq, Eq)]
+pub enum Refusal {
+    Outside, // 33: an operand outside its field
+    NoEncoding, // 34: UNDEF and LSL, whatever their operands
+}
 
 // One match, an arm an instruction, in the order of the enum: its layout, and its pattern with 0 for the letters.
-pub fn encode(op: Instruction) -> Encoded
-    ensures { result ≡ encode_of op }
+#[tactic(auto, unfolding(crate::specs::Encode::encode_of))]
+pub fn encode(op: Instruction) -> Result<Words, Refusal>
+    ensures { said result ≡ encode_of op }
 {
     match op {
         Instruction::ADC { d, r } => registers(0x1C00, d, r), // 0001_11rd_dddd_rrrr
@@ -71,7 +72,7 @@ pub fn encode(op: Instruction) -> Encoded
         Instruction::LPM => bare(0x95C8), // 1001_0101_1100_1000
         Instruction::LPMZ { d } => register(0x9004, d), // 1001_000d_dddd_0100
         Instruction::LPMZinc { d } => register(0x9005, d), // 1001_000d_dddd_0101
-        Instruction::LSL { .. } => none(NO_ENCODING),
+        Instruction::LSL { .. } => Err(Refusal::NoEncoding),
         Instruction::LSR { d } => register(0x9406, d), // 1001_010d_dddd_0110
         Instruction::MOV { d, r } => registers(0x2C00, d, r), // 0010_11rd_dddd_rrrr
         Instruction::MOVW { d, r } => pairs(0x0100, d, r), // 0000_0001_dddd_rrrr
@@ -113,18 +114,6 @@ pub fn encode(op: Instruction) -> Encoded
         Instruction::SUBI { d, K } => constant(0x5000, d, K), // 0101_KKKK_dddd_KKKK
         Instruction::SWAP { d } => register(0x9402, d), // 1001_010d_dddd_0010
         Instruction::WDR => bare(0x95A8), // 1001_0101_1010_1000
-        Instruction::UNDEF => none(NO_ENCODING),
-    }
-}
-
-// No words.
-fn none(refusal: u8) -> Encoded
-    ensures { result ≡ refused refusal }
-{
-    Encoded {
-        refusal,
-        words: 0,
-        first: 0,
-        second: 0,
+        Instruction::UNDEF => Err(Refusal::NoEncoding),
     }
 }

@@ -1,31 +1,29 @@
 // How many words of the program on standard input, each with the word behind it, `decode` knows and `encode` gives back: for tests.
 #![tactic(auto)]
 
+use encode::Words;
 use instruction::Instruction;
 use std::io::{self, Read};
 
 fn comes_back(first: u16, second: u16) -> bool {
     let op = Instruction::decode(first, second);
-    let two = op.two_words();
-    let back = encode::encode(op);
-    let words = if two {
-        (back.words == 2) & (back.second == second)
+    let words = if op.two_words() {
+        Words::Two(first, second)
     } else {
-        (back.words == 1) & (back.second == 0)
+        Words::One(first)
     };
-    (back.refusal == 0) & (back.first == first) & words
+    encode::encode(op) == Ok(words)
 }
 
-fn count(program: &[u8]) -> u32 {
-    let mut count = 0u32;
-    for pc in 0..65536u32 {
-        let first = memory::get_progmem(program, pc);
-        let second = memory::get_progmem(program, pc + 1);
-        let there = memory::has_word(program, pc);
-        let back = (there & comes_back(first, second)) as u32;
-        count = std::num::wrapping_add_u32(count, back);
-    }
-    count
+fn count(program: &[u8]) -> usize {
+    let words = 0..65536u32;
+    words
+        .filter(|pc| {
+            let first = memory::get_progmem(program, *pc);
+            let second = memory::get_progmem(program, *pc + 1);
+            memory::has_word(program, *pc) && comes_back(first, second)
+        })
+        .count()
 }
 
 fn main(rt: HostRuntime) -> io::Result<()> {

@@ -30,10 +30,10 @@ found Watchdog = refl
 found Undefined = refl
 found Break = refl
 
-abbrev pub same_done : Done → Done → Bool
+abbrev same_done : Done → Done → Bool
 same_done d e = eqb (place d) (place e)
 
-pub same-done : (d e : Done) → T (same_done d e) → d ≡ e
+same-done : (d e : Done) → T (same_done d e) → d ≡ e
 same-done d e t = sym (found d) ∙ ap at_place (eqb→eq (place d) (place e) t) ∙ found e
 
 -- ---- computed once for each instruction

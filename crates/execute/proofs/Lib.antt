@@ -1,3 +1,2 @@
--- `Rest`: the instructions of a last arm. `Answers`: what an instruction answers.
-pub mod Rest
+-- `Answers`: what an instruction answers.
 pub mod Answers

@@ -1,5 +1,5 @@
 -- 01's table, refusals 1 to 4: what an instruction needs, of a core whose PC is behind its first word.
-use Rattle.std.specs.Prelude.{ℕ, ◌+◌, Bool, true, false, ◌&&◌, List, length, ◌==◌, nat_le, nat_lt}
+use Rattle.std.specs.Prelude.{ℕ, ◌+◌, Bool, true, false, ◌&&◌, List, length, ◌==◌, nat_le, nat_lt, Result, Ok, Err}
 use Rattle.std.specs.Bool.{beq}
 use Rattle.basis.specs.Pick.{pick}
 use Rattle.basis.specs.Bit.{one, bit, up}
@@ -11,6 +11,8 @@ use Rattle.cores.specs.declared.Core.{Core}
 use Rattle.cores.specs.State.{reg, word}
 use Rattle.cores.specs.Flow.{two_at, data_bit_is}
 use Rattle.cores.specs.Transfer.{reach_of, pointed_of}
+use Rattle.execute.specs.declared.lack.Lack.{Lack}
+use Rattle.execute.specs.declared.lack.Lack.TheVariants.{Program, Room, Stack, Data}
 
 -- what a step needs is there: one test for each of refusals 1 to 4
 pub record Needs : Type 0 where
@@ -22,6 +24,18 @@ pub record Needs : Type 0 where
 -- "Where two refusals apply, the lower of 1 to 4 is given": 0 where nothing is lacking
 abbrev pub refusal : Needs → ℕ
 refusal n = pick n.program (pick n.room (pick n.stack (pick n.bytes 0 4) 3) 2) 1
+
+-- the table's number of each: 1 "isn't wholly in program", 2 "PC 65,534", 3 "SP below 2; SP above 65,533", 4 "a data byte needed isn't in data"
+abbrev pub lack_number : Lack → ℕ
+lack_number Program = 1
+lack_number Room = 2
+lack_number Stack = 3
+lack_number Data = 4
+
+-- and 0 where nothing is lacking
+abbrev pub said_lack : Result Unit Lack → ℕ
+said_lack (Ok t) = 0
+said_lack (Err l) = lack_number l
 
 -- ---- what several instructions need
 abbrev pub nothing : Needs

@@ -119,20 +119,17 @@ fn effect(core: Core, op: Instruction, program: &[u8], data: &mut [u8]) -> Core
 pub fn done_by(op: Instruction) -> Done
     ensures { result ≡ done_of op }
 {
-    match op {
-        Instruction::SLEEP => return Done::Sleep,
-        _ => {}
+    if matches!(op, Instruction::SLEEP) {
+        return Done::Sleep;
     }
-    match op {
-        Instruction::WDR => return Done::Watchdog,
-        _ => {}
+    if matches!(op, Instruction::WDR) {
+        return Done::Watchdog;
     }
-    match op {
-        Instruction::UNDEF => return Done::Undefined,
-        _ => {}
+    if matches!(op, Instruction::UNDEF) {
+        return Done::Undefined;
     }
-    match op {
-        Instruction::BREAK => Done::Break,
-        _ => Done::Ran,
+    if matches!(op, Instruction::BREAK) {
+        return Done::Break;
     }
+    Done::Ran
 }

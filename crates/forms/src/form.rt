@@ -1,4 +1,5 @@
 // The forms: which case of `Instruction` a word is, as the case's place in the enum. LSL, which no word is, has none.
+// Numbers and not an enum: `form_of` hands back whatever byte a lent table holds, and `instruction_of`, `effect` and `change` take any byte.
 pub const ADC: u8 = 0;
 
 pub const ADD: u8 = 1;

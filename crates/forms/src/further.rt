@@ -1,10 +1,12 @@
 // What a mark leads to: the forms of the words that share high byte and low nibble with words of another form, by bits 7 to 4.
+// `decode` has tables with the same keys, of instructions: one function for both would take every answer as a parameter.
 ghost use Rattle.std.specs.Prelude.{◌≡◌, ◌%◌};
 ghost use Rattle.instruction.specs.Decode.{look, mulsu_to_fmulsu_of, control_of, indirect_of};
 ghost use Rattle.forms.specs.Forms.{form, control_or_indirect, further_of};
 
 use crate::form::*;
 
+#[tactic(auto, unfolding(crate::specs::Forms::further_of))]
 pub(crate) fn further(opcode: u16) -> u8
     ensures { result ≡ further_of opcode }
 {
@@ -17,6 +19,7 @@ pub(crate) fn further(opcode: u16) -> u8
 }
 
 // 0x0300 to 0x03FF.
+#[tactic(auto, unfolding(instruction::specs::Decode::mulsu_to_fmulsu_of))]
 pub fn multiply(opcode: u16) -> u8
     ensures { result ≡ form (mulsu_to_fmulsu_of opcode) }
 {
@@ -39,6 +42,7 @@ fn control_or_indirect(opcode: u16) -> u8
 }
 
 // 0x9408 and each sixteenth word after it, to 0x95F8.
+#[tactic(auto, unfolding(instruction::specs::Decode::control_of))]
 pub fn control(opcode: u16) -> u8
     ensures { result ≡ form (control_of opcode) }
 {
@@ -56,6 +60,7 @@ pub fn control(opcode: u16) -> u8
 }
 
 // 0x9409 and each sixteenth word after it, to 0x95F9.
+#[tactic(auto, unfolding(instruction::specs::Decode::indirect_of))]
 pub fn indirect(opcode: u16) -> u8
     ensures { result ≡ form (indirect_of opcode) }
 {

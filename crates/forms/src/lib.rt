@@ -13,13 +13,10 @@ fn entry_at(table: &[u8], opcode: u16) -> u8
     ensures { result ≡ entry_at table.now opcode }
 {
     let index = (opcode / 256 * 16 + opcode % 16) as usize;
-    if index < table.len() {
-        table[index]
-    } else {
-        form::UNDEF
-    }
+    table.get(index).copied().unwrap_or(form::UNDEF)
 }
 
+#[tactic(auto, unfolding(crate::specs::Forms::form_by))]
 pub fn form_of(table: &[u8], opcode: u16) -> u8
     ensures { result ≡ form_by table.now opcode }
 {

@@ -1,12 +1,11 @@
 -- The characters of a line, one after another: as the loop over them goes.
 -- Assumes nothing.
 use mathlib.Core.Path.{◌≡◌, refl}
-use mathlib.Core.Bool.{Bool, true, false, not, ◌&&◌}
+use mathlib.Core.Bool.{Bool, true, false, ◌&&◌}
 use mathlib.Core.List.{List, [], ◌∷◌}
 use Prim.Native.Nat.{ℕ, zero, suc, ◌+◌, ◌*◌, ◌-◌, ◌≤◌, ◌<◌}
 use native.Mathlib.Omega.{arith}
 use native.Mathlib.Numerals.{add-one}
-use lib.Dec.{eqb}
 use lib.ListN.{length, drop, get_or, drop_of_length-le, length-drop}
 use lib.Seq.{drop-cons, get_or-drop}
 use Rattle.basis.proofs.Both.{both_true}
@@ -18,11 +17,6 @@ pub no_character : (l : List ℕ) → length l ≡ 0 → false ≡ wrong_charact
 unfolding wrong_character
 no_character [] h = refl
 no_character (c ∷ t) h = absurd (omega arith)
-
-pub first_character : (l : List ℕ) → (length l ≡ 0 → ⊥) → wrong_character l ≡ not (eqb (get_or l 0 0) 58 && all_digits (drop 1 l))
-unfolding wrong_character
-first_character [] h = absurd (h refl)
-first_character (c ∷ t) h = refl
 
 pub next_character : (l : List ℕ) (i : ℕ) (right : Bool) → i < length l → (right && all_digits (drop i l)) ≡ (right && is_digit (get_or l i 0) && all_digits (drop (i + 1) l))
 unfolding all_digits

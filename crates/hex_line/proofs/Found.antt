@@ -5,56 +5,22 @@ use mathlib.Core.Bool.{Bool, true, false, ◌&&◌}
 use mathlib.Core.List.{List, [], ◌∷◌}
 use Prim.Native.Nat.{ℕ, suc, ◌+◌, ◌-◌, ◌≤◌, ◌<◌}
 use native.Mathlib.Omega.{arith}
-use native.Mathlib.Nat.{zero-add, suc-add}
+use native.Mathlib.Nat.{zero-add, sub-zero, suc-add}
 use native.Mathlib.Numerals.{add-one}
 use lib.Dec.{eqb}
 use lib.ListN.{length, drop, take, get_or, length-drop, drop_of_length-le}
 use lib.Seq.{drop-cons, drop-drop}
-use borrow.Author.Tests.{lt-ltb, le-ltb, ne_eqb}
-use Rattle.basis.specs.Pick.{pick}
-use Rattle.basis.proofs.Choice.{clash}
+use borrow.Author.Tests.{lt-ltb, le-ltb}
+use Rattle.basis.proofs.Choice.{clash, either}
 use Rattle.basis.proofs.Both.{both_true}
 use Rattle.hex_line.specs.declared.Line.{Line}
-use Rattle.hex_line.specs.Line.{starts_lf, lines_of}
+use Rattle.hex_line.specs.Line.{starts_lf, on_first, lines_of}
 use Rattle.hex_line.specs.Way.{end_length, line_length, stop_of, line_at}
 
 -- ---- the line's end at a place
 module _ (t : List ℕ) (i : ℕ) where
   pub end_out : length t ≤ i → end_length (drop i t) ≡ 0
   end_out h = rw (drop_of_length-le t {i = i} h)
-
-  pub end_lf : i < length t → get_or t i 0 ≡ 10 → end_length (drop i t) ≡ 1
-  end_lf h e = rw (drop-cons t i 0 h, e)
-
-  pub end_other : i < length t → (get_or t i 0 ≡ 10 → ⊥) → (get_or t i 0 ≡ 13 → ⊥) → end_length (drop i t) ≡ 0
-  end_other h e f = rw (drop-cons t i 0 h, ne_eqb (get_or t i 0) 10 e, ne_eqb (get_or t i 0) 13 f)
-
-  pub end_last : i < length t → get_or t i 0 ≡ 13 → length t ≤ i + 1 → end_length (drop i t) ≡ 0
-  end_last h e k = rw (drop-cons t i 0 h, e, drop_of_length-le t {i = suc i} (omega arith))
-
-  pub end_cr_lf : i + 1 < length t → get_or t i 0 ≡ 13 → get_or t (i + 1) 0 ≡ 10 → end_length (drop i t) ≡ 2
-  end_cr_lf h e f = rw (drop-cons t i 0 (omega arith), e, drop-cons t (suc i) 0 (omega arith), ← add-one i, f)
-
-  pub end_cr : i + 1 < length t → get_or t i 0 ≡ 13 → (get_or t (i + 1) 0 ≡ 10 → ⊥) → end_length (drop i t) ≡ 0
-  end_cr h e f = rw (drop-cons t i 0 (omega arith), e, drop-cons t (suc i) 0 (omega arith), ← add-one i, ne_eqb (get_or t (i + 1) 0) 10 f)
-
--- an end lies inside its text
-end_fits : (t : List ℕ) → end_length t ≤ length t
-end_fits [] = omega arith
-end_fits (c ∷ t) = go t (eqb c 10) (eqb c 13)
-  where
-    go : (t : List ℕ) (a b : Bool) → pick a 1 (pick (b && starts_lf t) 2 0) ≤ suc (length t)
-    go t true b = omega arith
-    go t false false = omega arith
-    go [] false true = omega arith
-    go (d ∷ t) false true = two (eqb d 10) t
-      where
-        two : (a : Bool) (t : List ℕ) → pick a 2 0 ≤ suc (suc (length t))
-        two true t = omega arith
-        two false t = omega arith
-
-pub end_inside : (t : List ℕ) (i : ℕ) → i ≤ length t → i + end_length (drop i t) ≤ length t
-end_inside t i h = let k = end_fits (drop i t) in let e = length-drop i t in omega arith
 
 -- ---- a character more
 stop_at : (t : List ℕ) → 0 < end_length t → line_length t ≡ 0
@@ -151,6 +117,23 @@ first_at t at h =
 pub found : (t : List ℕ) (at : ℕ) (r : Line) → at < length t → r ≡ line_at t at → Found t at r.stop r.next
 found t at r h e = rw e (first_at t at h)
 
+pub first_line : (t : List ℕ) (r : Line) → 0 < length t → r ≡ line_at t 0 → lines_of t ≡ take r.stop t ∷ lines_of (drop r.next t)
+first_line t r h e = rw sub-zero at (found t 0 r h e).lines
+
 pub no_lines : (t : List ℕ) (at : ℕ) → length t ≤ at → lines_of (drop at t) ≡ []
 unfolding lines_of
 no_lines t at h = rw (drop_of_length-le t {i = at} h)
+
+-- ---- a text has no more lines than characters
+first_more : (c : ℕ) (ls : List (List ℕ)) → length (on_first c ls) ≤ suc (length ls)
+first_more c [] = omega arith
+first_more c (l ∷ ls) = omega arith
+
+pub few_lines : (t : List ℕ) → length (lines_of t) ≤ length t
+unfolding lines_of
+few_lines [] = omega arith
+few_lines (c ∷ t) =
+    let few = few_lines t in
+    let more = first_more c (lines_of t) in
+    let Few : List (List ℕ) → Type 0 = λ ls. length ls ≤ suc (length t) in
+    either Few (eqb c 10) _ _ (omega arith) (either Few (eqb c 13 && starts_lf t) _ _ (omega arith) (omega arith))

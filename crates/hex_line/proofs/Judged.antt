@@ -11,7 +11,9 @@ use borrow.Author.Tests.{eqb-true, ltb-false, lt-ltb, not-false}
 use Rattle.basis.specs.Pick.{pick}
 use Rattle.basis.proofs.Choice.{clash}
 use Rattle.basis.proofs.Both.{both_true}
-use Rattle.hex_line.specs.Line.{all_digits, count_of, address_of, end_of, is_end, wrong_character, wrong_length, wrong_sum, wrong_type, outside, falls, fault_of}
+use Rattle.hex_line.specs.Line.{all_digits, count_of, address_of, end_of, is_end, wrong_character, wrong_length, wrong_sum, wrong_type, outside, falls, fault_of, number_of}
+use Rattle.hex_line.specs.declared.faults.LineFault.{LineFault}
+use Rattle.hex_line.specs.declared.faults.LineFault.TheVariants.{Character, Length, Sum, Kind, Outside, Falls}
 use Rattle.hex_line.specs.Way.{Fits}
 
 -- the number by the six tests
@@ -40,6 +42,14 @@ fault_numbers size end l = numbers (wrong_character l) (wrong_length l) (wrong_s
 -- no number of a refusal is 0
 pub never : {X : Type 0} (n : ℕ) → suc n ≡ 0 → X
 never n h = absurd (omega arith)
+
+pub fault_never : (f : LineFault) → number_of f ≡ 0 → ⊥
+fault_never Character h = never 49 h
+fault_never Length h = never 50 h
+fault_never Sum h = never 51 h
+fault_never Kind h = never 52 h
+fault_never Outside h = never 53 h
+fault_never Falls h = never 54 h
 
 all_false : (a b c d e f : Bool) → lowest a b c d e f ≡ 0 → (a ≡ false) × (b ≡ false) × (e ≡ false) × (f ≡ false)
 all_false true b c d e f h = never 49 h

@@ -1,19 +1,20 @@
 -- The bytes of a record by the digits that say them, and their sum as the loop over them goes.
 -- Assumes nothing.
-use mathlib.Core.Path.{◌≡◌, refl}
-use mathlib.Core.Bool.{true}
-use mathlib.Core.List.{List, [], ◌∷◌}
+use mathlib.Core.Path.{◌≡◌, refl, ◌∙◌}
+use mathlib.Core.Bool.{true, ◌&&◌}
+use mathlib.Core.List.{List, [], ◌∷◌, ◌++◌}
 use Prim.Native.Nat.{ℕ, zero, suc, ◌+◌, ◌*◌, ◌%◌, ◌≤◌, ◌<◌}
 use native.Mathlib.Omega.{arith}
 use native.Mathlib.Numerals.{add-one}
 use lib.Dec.{ltb}
-use lib.ListN.{length, drop, take, get_or, length-drop}
-use lib.Seq.{drop-cons, get_or-take, length-take-le}
+use lib.ListN.{length, drop, take, get_or}
+use lib.Seq.{get_or-take, length-take-le}
 use borrow.Author.Tests.{lt-ltb, ltb-true, ltb-false}
+use Rattle.basis.proofs.Both.{both_true}
 use Rattle.basis.proofs.Choice.{test}
-use Rattle.hex_line.specs.Line.{value_of, all_digits, said, sum_of, record_of, count_of, address_of, type_of}
-use Rattle.hex_line.specs.Way.{byte_of}
-use Rattle.hex_line.proofs.Table.{value_lt}
+use Rattle.hex_line.specs.Line.{value_of, is_digit, all_digits, said, sum_of, record_of, count_of, address_of, type_of}
+use Rattle.hex_line.specs.Way.{digit_of, byte_of}
+use Rattle.hex_line.proofs.Table.{value_lt, digit_is}
 use Rattle.hex_line.proofs.Characters.{pair_is}
 
 -- ---- byte k of a record: the digits at 2 k + 1 and 2 k + 2
@@ -80,14 +81,7 @@ count_of_part n t h k =
     rw (e, lt-ltb (0 * 2 + 1 + 1) n (omega arith), lt-ltb (0 * 2 + 1 + 1) (length t) (omega arith), get_or-take n t 1 0 (omega arith), get_or-take n t 2 0 (omega arith))
 
 -- ---- the sum
-said_step : (l : List ℕ) (i : ℕ) → i + 1 < length l
-    → said (drop i l) ≡ (value_of (get_or l i 0) * 16 + value_of (get_or l (i + 1) 0)) ∷ said (drop (i + 2) l)
-unfolding said
-said_step l i h =
-    let e : suc (suc i) ≡ i + 2 = omega arith in
-    rw (drop-cons l i 0 (omega arith), drop-cons l (suc i) 0 (omega arith), e, add-one i)
-
-said_short : (t : List ℕ) → length t ≤ 1 → said t ≡ []
+said_short : (t : List ℕ) → length t < 2 → said t ≡ []
 unfolding said
 said_short [] h = refl
 said_short (c ∷ []) h = refl
@@ -97,11 +91,22 @@ said_short (c ∷ d ∷ t) h = absurd (omega arith)
 carry : (a b s m : ℕ) → m ≡ (a + b) % 256 → (a + (b + s)) % 256 ≡ (m + s) % 256
 carry a b s m e = omega arith
 
-pub sum_step : (l : List ℕ) (i sum b : ℕ) → i + 1 < length l → b ≡ value_of (get_or l i 0) * 16 + value_of (get_or l (i + 1) 0)
-    → (sum + sum_of (said (drop i l))) % 256 ≡ ((sum + b) % 256 + sum_of (said (drop (i + 2) l))) % 256
-unfolding sum_of
-sum_step l i sum b h e = rw (said_step l i h, ← e) (carry sum b (sum_of (said (drop (i + 2) l))) ((sum + b) % 256) refl)
+-- two digits more of those that are left
+pub sum_more : (digits two rest : List ℕ) (sum b : ℕ) → digits ≡ two ++ rest → length two ≡ 2 → all_digits digits ≡ true
+    → b ≡ (digit_of (get_or two 0 0) * 16 + digit_of (get_or two 1 0)) % 256
+    → ((sum + sum_of (said digits)) % 256 ≡ ((sum + b) % 256 + sum_of (said rest)) % 256) × (all_digits rest ≡ true)
+unfolding sum_of said all_digits
+sum_more digits [] rest sum b e n h k = absurd (omega arith)
+sum_more digits (c ∷ []) rest sum b e n h k = absurd (omega arith)
+sum_more digits (c ∷ d ∷ []) rest sum b e n h k =
+    let (first, others) = both_true (is_digit c) (is_digit d && all_digits rest) (rw e at h) in
+    let (second, last) = both_true (is_digit d) (all_digits rest) others in
+    let x = value_lt c in
+    let y = value_lt d in
+    let w : b ≡ value_of c * 16 + value_of d = k ∙ rw (digit_is c first, digit_is d second) (omega arith) in
+    (rw (e, ← w) (carry sum b (sum_of (said rest)) ((sum + b) % 256) refl), last)
+sum_more digits (c ∷ d ∷ f ∷ two) rest sum b e n h k = absurd (omega arith)
 
-pub sum_done : (l : List ℕ) (i : ℕ) → length l ≤ i + 1 → sum_of (said (drop i l)) ≡ 0
+pub sum_done : (t : List ℕ) → length t < 2 → sum_of (said t) ≡ 0
 unfolding sum_of
-sum_done l i h = rw (said_short (drop i l) (rw length-drop (omega arith)))
+sum_done t h = rw (said_short t h)

@@ -1,7 +1,10 @@
 -- Document 02, W1: the lines of a HEX file, the record of a line, and the faults of a line.
 -- t is a text, c and d characters, l a line, b a byte, s bytes; `size` is the buffer's, `end` where the data line before ended.
 use Rattle.std.specs.Prelude.{Bool, true, false, not, ◌&&◌, ◌||◌, List, [], ◌∷◌, ℕ, ◌+◌, ◌*◌, ◌%◌, ◌-◌, eqb, ltb, leb, get_or, take, drop, length}
+use Rattle.std.specs.Prelude.{Result, Ok, Err}
 use Rattle.basis.specs.Pick.{pick}
+use Rattle.hex_line.specs.declared.faults.LineFault.{LineFault}
+use Rattle.hex_line.specs.declared.faults.LineFault.TheVariants.{Character, Length, Sum, Kind, Outside, Falls}
 
 -- ---- lines: "Lines end in LF or CR LF on input ..; the last may lack it on input"
 abbrev pub starts_lf : List ℕ → Bool
@@ -102,3 +105,17 @@ fault_of size end l =
     (pick (wrong_type l) 53
     (pick (outside size l) 54
     (pick (falls end l) 55 0)))))
+
+-- the numbers of the code's faults: "50 a character that doesn't belong, 51 line length .., 52 line sum, 53 record type, 54 byte outside the buffer, 55 address falls"
+abbrev pub number_of : LineFault → ℕ
+number_of Character = 50
+number_of Length = 51
+number_of Sum = 52
+number_of Kind = 53
+number_of Outside = 54
+number_of Falls = 55
+
+-- and of what the code answers: 0 for no fault
+abbrev pub number_said : Result (Unit {0}) LineFault → ℕ
+number_said (Ok done) = 0
+number_said (Err fault) = number_of fault

@@ -1,95 +1,129 @@
 // A line judged: document 02's refusals 50 to 55, the later ones of a line whose characters belong.
-ghost use Rattle.std.specs.Prelude.{◌≡◌, true, drop};
-ghost use Rattle.hex_line.specs.Line.{all_digits, wrong_character, wrong_length, wrong_sum, wrong_type, outside, falls, fault_of};
+ghost use Rattle.std.specs.Prelude.{◌≡◌, true, false, drop, MatchResult};
+ghost use Rattle.hex_line.specs.Line.{all_digits, wrong_character, wrong_length, wrong_sum, wrong_type, outside, falls, fault_of, number_of, number_said};
 
-use crate::digits::is_digit;
-use crate::records::{address, count, kind, pair};
+use crate::digits::pair;
+use crate::records::{address, count, kind};
+
+// What is wrong with a line.
+#[derive(Clone, Copy, Debug, PartialEq, Eq)]
+pub enum LineFault {
+    Character,
+    Length,
+    Sum,
+    Kind,
+    Outside,
+    Falls,
+}
+
+impl From<LineFault> for u8 {
+    ghost from_gives = { λ fault n. n ≡ number_of fault };
+
+    fn from(fault: LineFault) -> u8 {
+        match fault {
+            LineFault::Character => 50,
+            LineFault::Length => 51,
+            LineFault::Sum => 52,
+            LineFault::Kind => 53,
+            LineFault::Outside => 54,
+            LineFault::Falls => 55,
+        }
+    }
+}
+
+// A line that is all digits behind its first character.
+#[derive(Clone, Copy)]
+struct Record<'a> {
+    line: &'a [u8],
+    ghost digits: { all_digits (drop 1 line.now) ≡ true },
+}
 
 fn wrong_character(line: &[u8]) -> bool
     ensures { result ≡ wrong_character line.now }
 {
-    if line.len() == 0 {
+    let Some((colon, digits)) = line.split_first() else {
         return false;
-    }
-    let mut right = line[0] == b':';
-    let mut i: usize = 1;
-    while i < line.len() {
+    };
+    let mut right = *colon == b':';
+    for c in digits {
         // no way out of the loop, so that many characters are looked at at once
-        right = right & is_digit(line[i]);
-        i += 1;
+        right &= c.is_ascii_hexdigit();
     }
     !right
 }
 
-fn wrong_length(line: &[u8]) -> bool
-    requires { all_digits (drop 1 line.now) ≡ true }
-    ensures { result ≡ wrong_length line.now }
-{
-    let n = count(line);
-    (line.len() != n as usize * 2 + 11) | (kind(line) == 1) & (0 < n)
+impl<'a> Record<'a> {
+    fn of(line: &'a [u8]) -> Result<Record<'a>, LineFault>
+        ensures { MatchResult result (λ r. (r.line.now ≡ line.now) × (wrong_character line.now ≡ false)) (λ e. (e ≡ LineFault.Character) × (wrong_character line.now ≡ true)) }
+    {
+        if wrong_character(line) {
+            return Err(LineFault::Character);
+        }
+        Ok(Record { line })
+    }
+
+    fn wrong_length(&self) -> bool
+        ensures { result ≡ wrong_length self.now.line.now }
+    {
+        let n = count(self.line);
+        (self.line.len() != n as usize * 2 + 11) | (kind(self.line) == 1) & (0 < n)
+    }
+
+    fn wrong_sum(&self) -> bool
+        ensures { result ≡ wrong_sum self.now.line.now }
+    {
+        let Some((_, digits)) = self.line.split_first() else {
+            return false;
+        };
+        let mut sum: u8 = 0;
+        for two in digits.chunks_exact(2) {
+            sum = sum.wrapping_add(pair(two[0], two[1]));
+        }
+        sum != 0
+    }
+
+    fn wrong_type(&self) -> bool
+        ensures { result ≡ wrong_type self.now.line.now }
+    {
+        1 < kind(self.line)
+    }
+
+    fn outside(&self, size: usize) -> bool
+        ensures { result ≡ outside size self.now.line.now }
+    {
+        let at = address(self.line) as usize;
+        let n = count(self.line) as usize;
+        (0 < n) & (size < at + n)
+    }
+
+    fn falls(&self, end: usize) -> bool
+        ensures { result ≡ falls end self.now.line.now }
+    {
+        let at = address(self.line) as usize;
+        (kind(self.line) != 1) & (at < end)
+    }
 }
 
-fn wrong_sum(line: &[u8]) -> bool
-    requires { all_digits (drop 1 line.now) ≡ true }
-    ensures { result ≡ wrong_sum line.now }
+// The lowest fault of a line, for a buffer of `size` bytes, where the data line before ended at `end`.
+#[tactic(auto, unfolding(crate::specs::Line::fault_of))]
+pub fn fault(line: &[u8], size: usize, end: usize) -> Result<(), LineFault>
+    ensures { number_said result ≡ fault_of size end line.now }
 {
-    if line.len() == 0 {
-        return false;
+    let record = Record::of(line)?;
+    if record.wrong_length() {
+        return Err(LineFault::Length);
     }
-    let mut sum: u32 = 0;
-    let mut i: usize = 1;
-    while i < line.len() - 1 {
-        sum = (sum + pair(line, i) as u32) % 256;
-        i += 2;
+    if record.wrong_sum() {
+        return Err(LineFault::Sum);
     }
-    sum != 0
-}
-
-fn wrong_type(line: &[u8]) -> bool
-    requires { all_digits (drop 1 line.now) ≡ true }
-    ensures { result ≡ wrong_type line.now }
-{
-    1 < kind(line)
-}
-
-fn outside(line: &[u8], size: usize) -> bool
-    requires { all_digits (drop 1 line.now) ≡ true }
-    ensures { result ≡ outside size line.now }
-{
-    let at = address(line) as usize;
-    let n = count(line) as usize;
-    (0 < n) & (size < at + n)
-}
-
-fn falls(line: &[u8], end: usize) -> bool
-    requires { all_digits (drop 1 line.now) ≡ true }
-    ensures { result ≡ falls end line.now }
-{
-    let at = address(line) as usize;
-    (kind(line) != 1) & (at < end)
-}
-
-// The lowest refusal of a line, for a buffer of `size` bytes, where the data line before ended at `end`; 0 for none.
-pub fn fault(line: &[u8], size: usize, end: usize) -> u8
-    ensures { result ≡ fault_of size end line.now }
-{
-    if wrong_character(line) {
-        return 50;
+    if record.wrong_type() {
+        return Err(LineFault::Kind);
     }
-    if wrong_length(line) {
-        return 51;
+    if record.outside(size) {
+        return Err(LineFault::Outside);
     }
-    if wrong_sum(line) {
-        return 52;
+    if record.falls(end) {
+        return Err(LineFault::Falls);
     }
-    if wrong_type(line) {
-        return 53;
-    }
-    if outside(line, size) {
-        return 54;
-    }
-    if falls(line, end) {
-        return 55;
-    }
-    0
+    Ok(())
 }

@@ -6,8 +6,8 @@ mod faults;
 mod lines;
 mod records;
 
-pub use faults::fault;
-pub use lines::{end_length, line_at};
+pub use faults::{LineFault, fault};
+pub use lines::{Lines, end_length, line_at};
 pub use records::{address, byte, count, kind};
 
 // Where a line's characters end, and where the next line starts.

@@ -1,5 +1,6 @@
-// A line found in a text.
+// The lines of a text.
 ghost use Rattle.std.specs.Prelude.{◌≡◌, drop};
+ghost use Rattle.hex_line.specs.Line.{lines_of};
 ghost use Rattle.hex_line.specs.Way.{end_length, line_at};
 
 use crate::Line;
@@ -8,32 +9,23 @@ use crate::Line;
 pub fn end_length(text: &[u8], at: usize) -> usize
     ensures { result ≡ end_length (drop at text.now) }
 {
-    if at >= text.len() {
-        return 0;
+    match text.get(at) {
+        Some(b'\n') => 1,
+        Some(b'\r') => if text.get(at + 1) == Some(&b'\n') {
+            2
+        } else {
+            0
+        },
+        _ => 0,
     }
-    let c = text[at];
-    // all that a line is made of, in one comparison
-    if c > b'\r' {
-        return 0;
-    }
-    if c == b'\n' {
-        return 1;
-    }
-    if c != b'\r' {
-        return 0;
-    }
-    if at + 1 >= text.len() {
-        return 0;
-    }
-    if text[at + 1] == b'\n' { 2 } else { 0 }
 }
 
 // The line that starts at `at`.
 pub fn line_at(text: &[u8], at: usize) -> Line
     ensures { result ≡ line_at text.now at }
 {
-    let mut i = at;
-    while i < text.len() {
+    let end = text.len().max(at);
+    for i in at..end {
         let n = end_length(text, i);
         if n > 0 {
             return Line {
@@ -41,7 +33,46 @@ pub fn line_at(text: &[u8], at: usize) -> Line
                 next: i + n,
             };
         }
-        i += 1;
     }
-    Line { stop: i, next: i }
+    Line {
+        stop: end,
+        next: end,
+    }
+}
+
+// The lines of a text, one after another: a text of no bytes has none.
+#[derive(Clone, Copy)]
+pub struct Lines<'a> {
+    rest: &'a [u8],
+}
+
+impl<'a> Lines<'a> {
+    ghost use Rattle.hex_line.specs.Left.{lines_left};
+
+    pub fn of(text: &'a [u8]) -> Lines<'a>
+        ensures { lines_left result ≡ lines_of text.now }
+    {
+        Lines { rest: text }
+    }
+}
+
+impl<'a> Iterator for Lines<'a> {
+    ghost use Rattle.std.specs.Iterator.{YieldsFirstRef, item_count};
+    ghost use Rattle.hex_line.specs.Left.{lines_left};
+
+    type Item = &'a [u8];
+
+    ghost next_gives = { YieldsFirstRef lines_left };
+
+    ghost remaining = { item_count lines_left };
+
+    fn next(&mut self) -> Option<&'a [u8]> {
+        let text = self.rest;
+        if text.is_empty() {
+            return None;
+        }
+        let Line { stop, next } = line_at(text, 0);
+        self.rest = &text[next..];
+        Some(&text[..stop])
+    }
 }

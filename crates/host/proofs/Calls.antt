@@ -9,7 +9,7 @@ use Rattle.cores.specs.declared.Core.{Core}
 use Rattle.tick.specs.Tick.{number_of, tick_of}
 use Rattle.tick.specs.Offer.{Offer}
 use Rattle.run.specs.Run.{ended_number}
-use Rattle.run.specs.Over.{passed, over_of, run_over, answer_in, count_in, tick_in, TicksIn, run_in, RunsIn}
+use Rattle.run.specs.Over.{passed, over_of, run_over, said_run, said_count, tick_in, TicksIn, run_in, RunsIn}
 use Rattle.run.specs.declared.over.Over.{Over}
 use Rattle.run.proofs.Calls.{run_in_refused, run_in_passed}
 use Rattle.host.specs.Host.{offer_of, Tells, TellsTicks, avr_tick_of, avr_run_of}
@@ -32,17 +32,17 @@ module _ (s p m : List ℕ) (offer : ℕ) (low : offer ≤ 65536) {o : Offer} (o
       (λ e. let v = rw e at w in rw e (record { number = number ∙ v.number; snapshot = v.snapshot; bytes = v.bytes }))
       (λ e. let v = rw e at w in rw e (record { number = number ∙ v.number; snapshot = v.snapshot; bytes = v.bytes })))
 
-  module _ (budget ticks : ℕ) {r : Result Over Unreadable} {s' m' : List ℕ} (back : r ≡ passed (read_of s).refusal (over_of (run_over budget s p m o))) (w : RunsIn (run_in s p m o budget) (answer_in r) (count_in r) s' m') where
+  module _ (budget ticks : ℕ) {r : Result Over Unreadable} {s' m' : List ℕ} (back : r ≡ passed (read_of s).refusal (over_of (run_over budget s p m o))) (w : RunsIn (run_in s p m o budget) (said_run r) (said_count r) s' m') where
     pub tells_run : {x : Over} → r ≡ Ok x → n ≡ ended_number x.ended → TellsTicks (avr_run_of s p m offer budget ticks) n s' m' x.ticks
     unfolding avr_run_of
     tells_run {x} is number =
         let e = eq-eqb (read_of s).refusal 0 (is_passed (read_of s).refusal (over_of (run_over budget s p m o)) (sym is ∙ back)) in
         let z = run_in_passed s p m o budget e in
         rw (le-ltb 65536 offer low, e, ← offered) (record {
-          number = number ∙ sym (ap answer_in is) ∙ w.answer ∙ ap (λ r. r.answer) z;
+          number = number ∙ sym (ap said_run is) ∙ w.answer ∙ ap (λ r. r.answer) z;
           snapshot = w.snapshot ∙ ap (λ r. r.snapshot) z;
           bytes = w.bytes ∙ ap (λ r. r.bytes) z;
-          ticks = sym (ap count_in is) ∙ w.count ∙ ap (λ r. r.count) z;
+          ticks = sym (ap said_count is) ∙ w.count ∙ ap (λ r. r.count) z;
         })
 
     pub tells_no_run : {x : Unreadable} → r ≡ Err x → n ≡ unreadable_number x → TellsTicks (avr_run_of s p m offer budget ticks) n s' m' ticks
@@ -51,7 +51,7 @@ module _ (s p m : List ℕ) (offer : ℕ) (low : offer ≤ 65536) {o : Offer} (o
         let e = ne_eqb (read_of s).refusal 0 (is_refused (read_of s).refusal (over_of (run_over budget s p m o)) (sym is ∙ back)) in
         let z = run_in_refused s p m o budget e in
         rw (le-ltb 65536 offer low, e)
-        (record { number = number ∙ sym (ap answer_in is) ∙ w.answer ∙ ap (λ r. r.answer) z; snapshot = w.snapshot ∙ ap (λ r. r.snapshot) z; bytes = w.bytes ∙ ap (λ r. r.bytes) z; ticks = refl })
+        (record { number = number ∙ sym (ap said_run is) ∙ w.answer ∙ ap (λ r. r.answer) z; snapshot = w.snapshot ∙ ap (λ r. r.snapshot) z; bytes = w.bytes ∙ ap (λ r. r.bytes) z; ticks = refl })
 
   -- a foretold tick, by what the reading of the snapshot hands back
   module _ {r : Result Core Unreadable} (said : said_read r ≡ read_of s) where

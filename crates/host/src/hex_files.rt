@@ -9,9 +9,16 @@ pub fn avr_hex_read(text: &[u8], program: &mut [u8], line: &mut usize) -> u32
     ensures program_after { program.new ≡ program_of text.now program.old }
     ensures line_after { line.new ≡ (read_of text.now (length program.old)).line }
 {
-    let read = intel_hex::read(text, program);
-    *line = read.line;
-    read.refusal as u32
+    match intel_hex::read(text, program) {
+        Ok(()) => {
+            *line = 0;
+            0
+        }
+        Err(error) => {
+            *line = error.line();
+            u8::from(error) as u32
+        }
+    }
 }
 
 // A program as a text. `written` gets the text's length, 0 where it is refused.
@@ -20,7 +27,14 @@ pub fn avr_hex_write(program: &[u8], text: &mut [u8], written: &mut usize) -> u3
     ensures text_after { text.new ≡ buffer_of program.now text.old }
     ensures written_after { written.new ≡ (write_of program.now (length text.old)).length }
 {
-    let wrote = intel_hex::write(program, text);
-    *written = wrote.length;
-    wrote.refusal as u32
+    match intel_hex::write(program, text) {
+        Ok(length) => {
+            *written = length;
+            0
+        }
+        Err(error) => {
+            *written = 0;
+            u8::from(error) as u32
+        }
+    }
 }

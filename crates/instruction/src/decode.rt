@@ -26,6 +26,7 @@ ghost use Rattle.instruction.specs.Decode.{
 use crate::Instruction;
 
 impl Instruction {
+    #[tactic(auto, unfolding(crate::specs::Decode::decode_of))]
     pub fn decode(opcode: u16, prefetch: u16) -> Instruction
         ensures { result ≡ decode_of opcode prefetch }
     {
@@ -51,6 +52,7 @@ impl Instruction {
 }
 
 // 0x0000 to 0x0FFF. The Rust's LSL, 0000_11dd_dddd_dddd, lies under ADD and is never reached.
+#[tactic(auto, unfolding(crate::specs::Decode::nop_to_add_of))]
 fn nop_to_add(opcode: u16) -> Instruction
     ensures { result ≡ nop_to_add_of opcode }
 {
@@ -77,6 +79,7 @@ fn nop_to_add(opcode: u16) -> Instruction
 }
 
 // 0x0300 to 0x03FF.
+#[tactic(auto, unfolding(crate::specs::Decode::mulsu_to_fmulsu_of))]
 fn mulsu_to_fmulsu(opcode: u16) -> Instruction
     ensures { result ≡ mulsu_to_fmulsu_of opcode }
 {
@@ -91,6 +94,7 @@ fn mulsu_to_fmulsu(opcode: u16) -> Instruction
 }
 
 // 0x1000 to 0x1FFF.
+#[tactic(auto, unfolding(crate::specs::Decode::cpse_to_adc_of))]
 fn cpse_to_adc(opcode: u16) -> Instruction
     ensures { result ≡ cpse_to_adc_of opcode }
 {
@@ -105,6 +109,7 @@ fn cpse_to_adc(opcode: u16) -> Instruction
 }
 
 // 0x2000 to 0x2FFF.
+#[tactic(auto, unfolding(crate::specs::Decode::and_to_mov_of))]
 fn and_to_mov(opcode: u16) -> Instruction
     ensures { result ≡ and_to_mov_of opcode }
 {
@@ -119,6 +124,7 @@ fn and_to_mov(opcode: u16) -> Instruction
 }
 
 // 0x3000 to 0x7FFF, and 0xE000 to 0xEFFF.
+#[tactic(auto, unfolding(crate::specs::Decode::immediate_of))]
 fn immediate(opcode: u16) -> Instruction
     ensures { result ≡ immediate_of opcode }
 {
@@ -136,6 +142,7 @@ fn immediate(opcode: u16) -> Instruction
 }
 
 // 0x8000 to 0x8FFF, and 0xA000 to 0xAFFF.
+#[tactic(auto, unfolding(crate::specs::Decode::displaced_of))]
 fn displaced(opcode: u16) -> Instruction
     ensures { result ≡ displaced_of opcode }
 {
@@ -150,6 +157,7 @@ fn displaced(opcode: u16) -> Instruction
 }
 
 // 0x9000 to 0x91FF.
+#[tactic(auto, unfolding(crate::specs::Decode::load_of))]
 fn load(opcode: u16, prefetch: u16) -> Instruction
     ensures { result ≡ load_of opcode prefetch }
 {
@@ -171,6 +179,7 @@ fn load(opcode: u16, prefetch: u16) -> Instruction
 }
 
 // 0x9200 to 0x93FF.
+#[tactic(auto, unfolding(crate::specs::Decode::store_of))]
 fn store(opcode: u16, prefetch: u16) -> Instruction
     ensures { result ≡ store_of opcode prefetch }
 {
@@ -190,6 +199,7 @@ fn store(opcode: u16, prefetch: u16) -> Instruction
 }
 
 // 0x9400 to 0x95FF.
+#[tactic(auto, unfolding(crate::specs::Decode::one_register_of))]
 fn one_register(opcode: u16, prefetch: u16) -> Instruction
     ensures { result ≡ one_register_of opcode prefetch }
 {
@@ -206,15 +216,14 @@ fn one_register(opcode: u16, prefetch: u16) -> Instruction
         8 => control(opcode),
         9 => indirect(opcode),
         10 => Instruction::DEC { d }, // 1001_010d_dddd_1010
-        12 => Instruction::JMP { k }, // 1001_010k_kkkk_110k
-        13 => Instruction::JMP { k },
-        14 => Instruction::CALL { k }, // 1001_010k_kkkk_111k
-        15 => Instruction::CALL { k },
+        12..=13 => Instruction::JMP { k }, // 1001_010k_kkkk_110k
+        14..=15 => Instruction::CALL { k }, // 1001_010k_kkkk_111k
         _ => Instruction::UNDEF,
     }
 }
 
 // 0x9408 and each sixteenth word after it, to 0x95F8.
+#[tactic(auto, unfolding(crate::specs::Decode::control_of))]
 fn control(opcode: u16) -> Instruction
     ensures { result ≡ control_of opcode }
 {
@@ -233,6 +242,7 @@ fn control(opcode: u16) -> Instruction
 }
 
 // 0x9409 and each sixteenth word after it, to 0x95F9.
+#[tactic(auto, unfolding(crate::specs::Decode::indirect_of))]
 fn indirect(opcode: u16) -> Instruction
     ensures { result ≡ indirect_of opcode }
 {
@@ -244,6 +254,7 @@ fn indirect(opcode: u16) -> Instruction
 }
 
 // 0x9600 to 0x97FF.
+#[tactic(auto, unfolding(crate::specs::Decode::word_immediate_of))]
 fn word_immediate(opcode: u16) -> Instruction
     ensures { result ≡ word_immediate_of opcode }
 {
@@ -256,6 +267,7 @@ fn word_immediate(opcode: u16) -> Instruction
 }
 
 // 0x9800 to 0x9BFF.
+#[tactic(auto, unfolding(crate::specs::Decode::port_bit_of))]
 fn port_bit(opcode: u16) -> Instruction
     ensures { result ≡ port_bit_of opcode }
 {
@@ -279,6 +291,7 @@ fn mul(opcode: u16) -> Instruction
 }
 
 // 0xB000 to 0xBFFF.
+#[tactic(auto, unfolding(crate::specs::Decode::port_of))]
 fn port(opcode: u16) -> Instruction
     ensures { result ≡ port_of opcode }
 {
@@ -291,6 +304,7 @@ fn port(opcode: u16) -> Instruction
 }
 
 // 0xC000 to 0xDFFF. The offset's bit 11 is its sign.
+#[tactic(auto, unfolding(crate::specs::Decode::relative_of))]
 fn relative(opcode: u16) -> Instruction
     ensures { result ≡ relative_of opcode }
 {
@@ -302,6 +316,7 @@ fn relative(opcode: u16) -> Instruction
 }
 
 // 0xF000 to 0xFFFF. The offset's bit 6 is its sign.
+#[tactic(auto, unfolding(crate::specs::Decode::branch_or_bit_of))]
 fn branch_or_bit(opcode: u16) -> Instruction
     ensures { result ≡ branch_or_bit_of opcode }
 {
@@ -315,6 +330,7 @@ fn branch_or_bit(opcode: u16) -> Instruction
 }
 
 // 0xF800 to 0xFFFF.
+#[tactic(auto, unfolding(crate::specs::Decode::register_bit_of))]
 fn register_bit(opcode: u16) -> Instruction
     ensures { result ≡ register_bit_of opcode }
 {

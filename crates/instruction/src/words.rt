@@ -9,12 +9,12 @@ impl Instruction {
     pub fn two_words(self) -> bool
         ensures { result ≡ two_words self }
     {
-        match self {
-            Instruction::CALL { .. } => true,
-            Instruction::JMP { .. } => true,
-            Instruction::LDS { .. } => true,
-            Instruction::STS { .. } => true,
-            _ => false,
-        }
+        matches!(
+            self,
+            Instruction::CALL { .. }
+                | Instruction::JMP { .. }
+                | Instruction::LDS { .. }
+                | Instruction::STS { .. }
+        )
     }
 }

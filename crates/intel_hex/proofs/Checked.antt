@@ -1,6 +1,6 @@
 -- A text checked line by line: as the code's loop goes, and what holds of a text that is not refused.
 -- Assumes nothing.
-use mathlib.Core.Path.{◌≡◌, refl}
+use mathlib.Core.Path.{◌≡◌, refl, sym}
 use mathlib.Core.Bool.{Bool, true, false}
 use mathlib.Core.Logic.{◌⊎◌, inl, inr}
 use mathlib.Core.List.{List, [], ◌∷◌}
@@ -8,14 +8,22 @@ use Prim.Native.Nat.{ℕ, ◌+◌, ◌*◌, ◌-◌, ◌≤◌, ◌<◌}
 use native.Mathlib.Omega.{arith}
 use lib.Dec.{eqb}
 use lib.ListN.{length, drop, take, length-drop}
-use lib.Seq.{take_all, length-take-le}
+use lib.Seq.{drop-drop, length-take-le}
 use borrow.Author.Tests.{ne_eqb, eqb-true, eqb-false}
 use Rattle.hex_line.specs.Line.{lines_of, type_of, is_end, end_of, fault_of}
 use Rattle.hex_line.specs.Way.{end_length, stop_of, line_at, byte_of, Fits}
-use Rattle.hex_line.proofs.Found.{Found, found, no_lines}
+use Rattle.hex_line.proofs.Found.{found, first_line}
 use Rattle.hex_line.proofs.RecordBytes.{count_is, count_of_part}
-use Rattle.hex_line.proofs.Judged.{never, fits}
-use Rattle.intel_hex.specs.Reading.{answer, behind_end, checked}
+use Rattle.hex_line.proofs.Judged.{never, fault_never, fits}
+use Rattle.intel_hex.specs.Reading.{answer, behind_end, checked, number_of}
+use Rattle.intel_hex.specs.declared.errors.ReadError.{ReadError}
+use Rattle.intel_hex.specs.declared.errors.ReadError.TheVariants.{Fault, End, TooLarge}
+
+-- no error has the number 0
+pub error_never : (e : ReadError) → number_of e ≡ 0 → ⊥
+error_never (Fault n fault) h = fault_never fault h
+error_never (End n) h = never 55 h
+error_never TooLarge h = never 56 h
 
 -- ---- one line more
 module _ (size n end : ℕ) (l : List ℕ) (ls : List (List ℕ)) where
@@ -31,15 +39,9 @@ module _ (size n end : ℕ) (l : List ℕ) (ls : List (List ℕ)) where
   unfolding checked
   onwards h k = rw (h, ne_eqb (type_of l) 1 k)
 
-pub missing : (size n end : ℕ) (t : List ℕ) (at : ℕ) → length t ≤ at → checked size n end (lines_of (drop at t)) ≡ answer 56 n
+pub missing : (size n end : ℕ) → checked size n end [] ≡ answer 56 n
 unfolding checked
-missing size n end t at h = rw (no_lines t at h)
-
-pub more : (n : ℕ) (t : List ℕ) (at : ℕ) → at < length t → behind_end n (lines_of (drop at t)) ≡ answer 56 n
-more n t at h = rw (found t at (line_at t at) h refl).lines
-
-pub no_more : (n : ℕ) (t : List ℕ) (at : ℕ) → length t ≤ at → behind_end n (lines_of (drop at t)) ≡ answer 0 0
-no_more n t at h = rw (no_lines t at h)
+missing size n end = refl
 
 -- ---- lines that are not refused
 nothing_behind : (n : ℕ) (ls : List (List ℕ)) → (behind_end n ls).refusal ≡ 0 → ls ≡ []
@@ -84,21 +86,27 @@ pub rest_fits : {size : ℕ} {l : List ℕ} {ls : List (List ℕ)} → AllFit si
 rest_fits (line f r) = r
 
 -- a line that fits ends where its count, n, says
-pub by_count : {size : ℕ} (t : List ℕ) (at n : ℕ) → at < length t → AllFit size (lines_of (drop at t)) → n ≡ byte_of (take (length t - at) (drop at t)) 0
-    → Found t at (at + n * 2 + 11) (at + n * 2 + 11 + end_length (drop (at + n * 2 + 11) t))
-by_count t at n h fit e =
-    let f = found t at (line_at t at) h refl in
-    let u = drop at t in
-    let stop = stop_of t at in
-    let d : length u ≡ length t - at = length-drop at t in
-    let a = f.starts in
+pub record Counted (size stop : ℕ) (t : List ℕ) : Type 0 where
+  pub inside : stop ≤ length t
+  pub ends : end_length (drop stop t) ≤ length (drop stop t)
+  pub lines : lines_of t ≡ take stop t ∷ lines_of (drop (end_length (drop stop t)) (drop stop t))
+  pub fits : Fits size (take stop t)
+  pub rest : AllFit size (lines_of (drop (end_length (drop stop t)) (drop stop t)))
+
+pub by_count : {size : ℕ} (t : List ℕ) (n : ℕ) → 0 < length t → AllFit size (lines_of t) → n ≡ byte_of t 0 → Counted size (n * 2 + 11) t
+by_count {size} t n h fit e =
+    let f = found t 0 (line_at t 0) h refl in
+    let stop = stop_of t 0 in
     let b = f.stops in
     let c = f.fits in
-    let m : length (take (stop - at) u) ≡ stop - at = length-take-le (stop - at) u (omega arith) in
-    let line = first_fits (rw f.lines at fit) in
+    let next : drop (line_at t 0).next t ≡ drop (end_length (drop stop t)) (drop stop t) = sym (drop-drop (end_length (drop stop t)) stop t) in
+    let lines : lines_of t ≡ take stop t ∷ lines_of (drop (end_length (drop stop t)) (drop stop t)) = rw (← next) (first_line t (line_at t 0) h refl) in
+    let all : AllFit size (take stop t ∷ lines_of (drop (end_length (drop stop t)) (drop stop t))) = rw lines at fit in
+    let line = first_fits all in
     let long = line.long in
-    let count = count_is (take (stop - at) u) line.digits in
-    let first : byte_of (take (stop - at) u) 0 ≡ byte_of u 0 = count_of_part (stop - at) u (omega arith) (omega arith) in
-    let whole : n ≡ byte_of u 0 = rw (take_all (length t - at) u (omega arith)) at e in
-    let k : stop ≡ at + n * 2 + 11 = omega arith in
-    rw (← k) f
+    let m : length (take stop t) ≡ stop = length-take-le stop t (omega arith) in
+    let count = count_is (take stop t) line.digits in
+    let first : byte_of (take stop t) 0 ≡ byte_of t 0 = count_of_part stop t (omega arith) (omega arith) in
+    let k : stop ≡ n * 2 + 11 = omega arith in
+    let d : length (drop stop t) ≡ length t - stop = length-drop stop t in
+    rw (← k) (record { inside = omega arith; ends = omega arith; lines = lines; fits = line; rest = rest_fits all })

@@ -13,7 +13,7 @@ use borrow.Author.Tests.{eq-eqb, eqb-true, eqb-false, lt-ltb, le-ltb, ltb-true, 
 use Rattle.basis.proofs.Both.{both_true}
 use Rattle.hex_line.specs.Line.{lines_of, is_end, end_of, fault_of}
 use Rattle.hex_line.proofs.Judged.{fault_numbers}
-use Rattle.intel_hex.specs.declared.check.Read.{Read}
+use Rattle.intel_hex.specs.Reading.{Read}
 use Rattle.intel_hex.specs.Reading.{answer, behind_end, checked, read_of}
 use Rattle.intel_hex.specs.Answers.{good_data, end_after, At, Ends, NoEnd, Behind, EachNumberExactly}
 use Rattle.intel_hex.proofs.Checked.{faulty, last}

@@ -6,12 +6,12 @@ use Prim.Native.Nat.{ℕ, zero, suc, ◌+◌, ◌*◌, ◌-◌, ◌≤◌, ◌<�
 use native.Mathlib.Omega.{arith}
 use native.Mathlib.Numerals.{add-one}
 use native.Mathlib.Nat.{add-zero}
-use lib.ListN.{length, drop, take, get_or, set, replicate, length-drop, drop_of_length-le, replicate-append-replicate}
-use lib.Seq.{sets, take-suc, take_all, take-suc-set, get_or-take, get_or-drop, length-take-le}
+use lib.ListN.{length, drop, take, get_or, set, replicate, length-drop}
+use lib.Seq.{sets, take-suc, take_all, get_or-take, get_or-drop, length-take-le}
 use borrow.Author.Tests.{le-ltb, ne_eqb}
 use Rattle.hex_line.specs.Line.{lines_of, said, record_of, count_of, address_of, data_of}
 use Rattle.hex_line.specs.Way.{Fits}
-use Rattle.intel_hex.specs.declared.check.Read.{Read}
+use Rattle.intel_hex.specs.Reading.{Read}
 use Rattle.intel_hex.specs.Reading.{checked, read_of, filled, program_of}
 
 -- ---- a byte more
@@ -47,19 +47,15 @@ module _ {size : ℕ} (l : List ℕ) (f : Fits size l) where
   pub fill_done : (p : List ℕ) (j : ℕ) → count_of l ≤ j → sets p (address_of l) (take j (data_of l)) ≡ sets p (address_of l) (data_of l)
   fill_done p j h = rw (take_all j (data_of l) (omega (arith, length_data)))
 
-pub blank_step : (p : List ℕ) (i x : ℕ) → i < length p → take i p ≡ replicate i x → take (i + 1) (set p i x) ≡ replicate (i + 1) x
-blank_step p i x h e =
-    let s : take (i + 1) (set p i x) ≡ take i p ++ (x ∷ []) = rw (add-one i) (take-suc-set p i x h) in
-    s ∙ rw e (replicate-append-replicate i 1 x)
-
 -- ---- a line more
 pub filled_line : (l : List ℕ) (ls : List (List ℕ)) (p : List ℕ) → filled (l ∷ ls) p ≡ filled ls (sets p (address_of l) (data_of l))
 unfolding filled
 filled_line l ls p = refl
 
-pub filled_end : (t : List ℕ) (at : ℕ) (p : List ℕ) → length t ≤ at → filled (lines_of (drop at t)) p ≡ p
+pub filled_end : (t p : List ℕ) → length t ≡ 0 → filled (lines_of t) p ≡ p
 unfolding filled lines_of
-filled_end t at p h = rw (drop_of_length-le t {i = at} h)
+filled_end [] p h = refl
+filled_end (c ∷ t) p h = absurd (omega arith)
 
 -- ---- a text read
 module _ (t p : List ℕ) (r : Read) (small : length p ≤ 65536) (is : r ≡ checked (length p) 1 0 (lines_of t)) where

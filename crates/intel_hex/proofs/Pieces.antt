@@ -2,12 +2,13 @@
 -- Assumes nothing.
 use mathlib.Core.Path.{◌≡◌, refl, sym, ◌∙◌}
 use mathlib.Core.List.{List, [], ◌∷◌, ◌++◌, append_assoc}
-use Prim.Native.Nat.{ℕ, suc, ◌+◌, ◌*◌, ◌/◌, ◌%◌, ◌≤◌, ◌<◌}
+use Prim.Native.Nat.{ℕ, suc, ◌+◌, ◌*◌, ◌/◌, ◌%◌, ◌<◌}
 use native.Mathlib.Omega.{arith}
-use native.Mathlib.Nat.{add-zero}
+use native.Mathlib.Nat.{zero-add, add-zero}
 use native.Mathlib.Numerals.{add-one}
 use lib.ListN.{length, take, get_or, set}
-use lib.Seq.{sets, take-suc, take_all, length-take-le}
+use lib.Seq.{sets, take-suc, length-take-le}
+use Rattle.std.specs.Prelude.{fold}
 use Rattle.basis.specs.Text.{hex_digit}
 use Rattle.hex_line.specs.Line.{sum_of}
 use Rattle.intel_hex.specs.Writing.{sum_from, digits_of, line_of}
@@ -37,31 +38,19 @@ digits_step p i s j h =
     let n : length (digits_of (take j s)) ≡ j * 2 = length_digits (take j s) ∙ rw (length-take-le j s (omega arith)) in
     rw (add-one j, take-suc s j 0 h, digits_append (take j s) (get_or s j 0 ∷ []), sets_append p i (digits_of (take j s)) (digits_of (get_or s j 0 ∷ [])), n)
 
-pub digits_all : (p : List ℕ) (i : ℕ) (s : List ℕ) (j : ℕ) → length s ≤ j → sets p i (digits_of (take j s)) ≡ sets p i (digits_of s)
-digits_all p i s j h = rw (take_all j s h)
-
 -- ---- the sum
 sum_append : (s t : List ℕ) → sum_of (s ++ t) ≡ sum_of s + sum_of t
 unfolding sum_of
 sum_append [] t = omega arith
 sum_append (b ∷ s) t = rw (sum_append s t) (omega arith)
 
-mod_step : (a b m : ℕ) → m ≡ a % 256 → (m + b) % 256 ≡ (a + b) % 256
-mod_step a b m e = omega arith
-
-sum_one : (b : ℕ) → sum_of (b ∷ []) ≡ b
+fold_from : (s : List ℕ) (a : ℕ) → a < 256 → fold (λ sum b. (sum + b) % 256) a s ≡ (a + sum_of s) % 256
 unfolding sum_of
-sum_one b = omega arith
+fold_from [] a h = omega arith
+fold_from (b ∷ s) a h = fold_from s ((a + b) % 256) (omega arith) ∙ omega arith
 
-pub sum_start : (s : List ℕ) → 0 ≡ sum_of (take 0 s) % 256
-unfolding sum_of
-sum_start s = refl
-
-pub sum_step : (s : List ℕ) (j m : ℕ) → j < length s → m ≡ sum_of (take j s) % 256 → (m + get_or s j 0) % 256 ≡ sum_of (take (j + 1) s) % 256
-sum_step s j m h e = rw (add-one j, take-suc s j 0 h, sum_append (take j s) (get_or s j 0 ∷ []), sum_one (get_or s j 0)) (mod_step (sum_of (take j s)) (get_or s j 0) m e)
-
-pub sum_all : (s : List ℕ) (j : ℕ) → length s ≤ j → sum_of (take j s) % 256 ≡ sum_of s % 256
-sum_all s j h = rw (take_all j s h)
+pub fold_sum : (s : List ℕ) → fold (λ sum b. (sum + b) % 256) 0 s ≡ sum_of s % 256
+fold_sum s = fold_from s 0 (omega arith) ∙ rw zero-add
 
 -- ---- the line
 byte_put : (q : List ℕ) (i b x : ℕ) → sets q i (digits_of (b ∷ []) ++ (x ∷ [])) ≡ set (sets q i (digits_of (b ∷ []))) (i + 2) x
@@ -90,12 +79,10 @@ abbrev pub head_of : ℕ → ℕ → List ℕ → List ℕ
 head_of kind address s = length s ∷ address / 256 ∷ address % 256 ∷ kind ∷ []
 
 pub put_all : (o : List ℕ) (at kind address : ℕ) (s : List ℕ) (x : ℕ) → x ≡ sum_from (sum_of (head_of kind address s) + sum_of s)
-    → set (sets (sets (sets (set o at 58) (at + 1) (digits_of (head_of kind address s))) (at + 9) (digits_of s)) (at + 9 + length s * 2) (digits_of (x ∷ []))) (at + 11 + length s * 2) 10
+    → set (sets (sets (sets (set o at 58) (at + 1) (digits_of (head_of kind address s))) (at + 1 + 8) (digits_of s)) (at + 1 + 8 + length s * 2) (digits_of (x ∷ []))) (at + 1 + 8 + length s * 2 + 2) 10
     ≡ sets o at (line_of kind address s ++ (10 ∷ []))
 unfolding digits_of
 put_all o at kind address s x h =
     let head = head_of kind address s in
     let e : sum_from (sum_of (head ++ s)) ≡ x = rw (sum_append head s) (sym h) in
-    let i : at + 1 + 8 ≡ at + 9 = omega arith in
-    let j : at + 9 + length s * 2 + 2 ≡ at + 11 + length s * 2 = omega arith in
-    sym (rw (e, ← add-one at) (digits_put (set o at 58) (at + 1) head s x 10 ∙ rw (i, j)))
+    sym (rw (e, ← add-one at) (digits_put (set o at 58) (at + 1) head s x 10))

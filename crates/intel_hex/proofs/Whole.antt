@@ -1,14 +1,14 @@
 -- The text of a program, line by line, and its length.
 -- Assumes nothing.
-use mathlib.Core.Path.{◌≡◌, sym, ap, ◌∙◌}
-use mathlib.Core.List.{List, [], ◌∷◌, ◌++◌, append_assoc}
+use mathlib.Core.Path.{◌≡◌, refl, sym, ap, ◌∙◌}
+use mathlib.Core.List.{List, [], ◌∷◌, ◌++◌, append_assoc, append-nil}
 use Prim.Native.Nat.{ℕ, zero, suc, ◌+◌, ◌*◌, ◌/◌, ◌%◌, ◌-◌, ◌≤◌, ◌<◌, min}
 use native.Mathlib.Omega.{arith}
 use native.Mathlib.Nat.{zero-add}
-use lib.Dec.{leb}
-use lib.ListN.{length, take, drop, length-append, length-take, length-drop}
-use lib.Seq.{sets, sets-eq, drop-drop, take_all}
-use borrow.Author.Tests.{lt-ltb, le-ltb, leb-true, leb-false}
+use lib.Dec.{leb, ltb}
+use lib.ListN.{length, take, drop, length-append, length-take, length-drop, drop_of_length-le}
+use lib.Seq.{sets, sets-eq, take_all, take_at, drop_at}
+use borrow.Author.Tests.{lt-ltb, le-ltb, ltb-true, ltb-false, leb-true, leb-false}
 use Rattle.basis.proofs.Choice.{test}
 use Rattle.hex_line.specs.Line.{sum_of}
 use Rattle.intel_hex.specs.Writing.{sum_from, line_of, text_from, text_of, written, write_of, buffer_of}
@@ -16,9 +16,9 @@ use Rattle.intel_hex.specs.Promises.{TextLength}
 use Rattle.intel_hex.proofs.Spelled.{length_digits}
 use Rattle.intel_hex.proofs.Pieces.{sets_append}
 
--- the text from byte i of the program on
-abbrev pub rest_of : List ℕ → ℕ → List ℕ
-rest_of p i = text_from ((length p - i + 15) / 16) i (drop i p)
+-- the text of what is left of a program, from an address on
+abbrev pub rest_of : ℕ → List ℕ → List ℕ
+rest_of address p = text_from ((length p + 15) / 16) address p
 
 -- a line with its LF
 abbrev pub ended : ℕ → ℕ → List ℕ → List ℕ
@@ -29,27 +29,17 @@ length_line kind at s =
     let head = length s ∷ at / 256 ∷ at % 256 ∷ kind ∷ s in
     rw (length-append (line_of kind at s) (10 ∷ []), length_digits (head ++ (sum_from (sum_of head) ∷ [])), length-append head (sum_from (sum_of head) ∷ [])) (omega arith)
 
-take_min : (q : List ℕ) (m : ℕ) → m ≡ min 16 (length q) → take m q ≡ take 16 q
-take_min q m e =
-    test (leb (length q) 16)
-    (λ h. let k = leb-true (length q) 16 h in take_all m q (omega arith) ∙ sym (take_all 16 q k))
-    (λ h. let k = leb-false (length q) 16 h in let f : m ≡ 16 = omega arith in rw f)
-
 from_first : (lines i : ℕ) (p : List ℕ) → text_from (suc lines) i p ≡ ended 0 i (take 16 p) ++ text_from lines (i + 16) (drop 16 p)
 unfolding text_from
 from_first lines i p = sym (append_assoc (line_of 0 i (take 16 p)) (10 ∷ []) (text_from lines (i + 16) (drop 16 p)))
 
-rest_first : (p : List ℕ) (i : ℕ) → i < length p → rest_of p i ≡ ended 0 i (take 16 (drop i p)) ++ rest_of p (i + 16)
-rest_first p i h =
-    let e : (length p - i + 15) / 16 ≡ suc ((length p - (i + 16) + 15) / 16) = omega arith in
-    rw (e, from_first, drop-drop 16 i p)
-
-pub rest_end : (p : List ℕ) (i : ℕ) → length p ≤ i → rest_of p i ≡ ended 1 0 []
+pub rest_end : (address : ℕ) (p : List ℕ) → length p ≡ 0 → rest_of address p ≡ ended 1 0 []
 unfolding text_from
-rest_end p i h = let e : (length p - i + 15) / 16 ≡ 0 = omega arith in rw e
+rest_end address p h = rw h
 
-pub rest_start : (p : List ℕ) → text_of p ≡ rest_of p 0
-rest_start p = let e : length p - 0 ≡ length p = omega arith in rw e
+empty : (p : List ℕ) → length p ≡ 0 → p ≡ []
+empty [] h = refl
+empty (b ∷ p) h = absurd (omega arith)
 
 -- ---- its length
 length_end : (i : ℕ) (p : List ℕ) → length p ≤ 0 → length (text_from zero i p) ≡ length p * 2 + 0 * 12 + 12
@@ -73,22 +63,43 @@ length_from (suc lines) i p h =
 pub length_text : TextLength
 length_text p = length_from ((length p + 15) / 16) 0 p (omega arith)
 
--- ---- a line more, of m bytes
-module _ (p : List ℕ) (i m : ℕ) (h : i < length p) (e : m ≡ min 16 (length p - i)) where
-  pub line_length : length (take m (drop i p)) ≡ m
-  line_length = let d : length (drop i p) ≡ length p - i = length-drop i p in length-take m (drop i p) ∙ omega arith
+-- ---- a line more; past the last the address does not count, so it may wrap
+module _ (rest line left : List ℕ) (address : ℕ) (cut : rest ≡ line ++ left) (long : length line ≡ min 16 (length rest)) (some : 0 < length rest) (low : address + length rest ≤ 65536) where
+  both : length rest ≡ length line + length left
+  both = rw cut (length-append line left)
 
-  next_text : rest_of p i ≡ ended 0 i (take m (drop i p)) ++ rest_of p (i + 16)
+  line_is : take 16 rest ≡ line
+  line_is =
+      test (leb 16 (length rest))
+      (λ h. let k = leb-true 16 (length rest) h in rw cut (take_at line left 16 (omega arith)))
+      (λ h. let k = leb-false 16 (length rest) h in take_all 16 rest (omega arith) ∙ rw (cut, empty left (omega (arith, both)), append-nil line))
+
+  left_is : drop 16 rest ≡ left
+  left_is =
+      test (leb 16 (length rest))
+      (λ h. let k = leb-true 16 (length rest) h in rw cut (drop_at line left 16 (omega arith)))
+      (λ h. let k = leb-false 16 (length rest) h in rw (drop_of_length-le rest {i = 16} (omega arith), empty left (omega (arith, both))))
+
+  next_address : rest_of (address + 16) left ≡ rest_of ((address + 16) % 65536) left
+  unfolding text_from
+  next_address =
+      test (ltb 0 (length left))
+      (λ h. let k = ltb-true 0 (length left) h in let e : (address + 16) % 65536 ≡ address + 16 = omega (arith, both) in rw e)
+      (λ h. let k = ltb-false 0 (length left) h in rw (empty left (omega arith)))
+
+  next_text : rest_of address rest ≡ ended 0 address line ++ rest_of ((address + 16) % 65536) left
   next_text =
-      let d : length (drop i p) ≡ length p - i = length-drop i p in
-      let t : take 16 (drop i p) ≡ take m (drop i p) = sym (take_min (drop i p) m (omega arith)) in
-      rest_first p i h ∙ rw t
+      let e : (length rest + 15) / 16 ≡ suc ((length left + 15) / 16) = omega (arith, both) in
+      rw (e, from_first, line_is, left_is, next_address)
 
-  pub next_length : length (rest_of p i) ≡ m * 2 + 12 + length (rest_of p (i + 16))
-  next_length = ap length next_text ∙ rw (length-append (ended 0 i (take m (drop i p))) (rest_of p (i + 16)), length_line 0 i (take m (drop i p)), line_length)
+  pub next_low : (address + 16) % 65536 + length left ≤ 65536
+  next_low = omega (arith, both)
 
-  pub next_put : (o : List ℕ) (at : ℕ) → sets o at (rest_of p i) ≡ sets (sets o at (ended 0 i (take m (drop i p)))) (at + (m * 2 + 12)) (rest_of p (i + 16))
-  next_put o at = rw (next_text, sets_append o at (ended 0 i (take m (drop i p))) (rest_of p (i + 16)), length_line 0 i (take m (drop i p)), line_length)
+  pub next_length : length (rest_of address rest) ≡ length line * 2 + 12 + length (rest_of ((address + 16) % 65536) left)
+  next_length = ap length next_text ∙ rw (length-append (ended 0 address line) (rest_of ((address + 16) % 65536) left), length_line 0 address line)
+
+  pub next_put : (o : List ℕ) (at : ℕ) → sets o at (rest_of address rest) ≡ sets (sets o at (ended 0 address line)) (at + (length line * 2 + 12)) (rest_of ((address + 16) % 65536) left)
+  next_put o at = rw (next_text, sets_append o at (ended 0 address line) (rest_of ((address + 16) % 65536) left), length_line 0 address line)
 
 -- ---- a text written, of n characters
 module _ (p o : List ℕ) (n : ℕ) (small : length p ≤ 65536) (is : n ≡ length p * 2 + (length p + 15) / 16 * 12 + 12) where

@@ -4,7 +4,14 @@ use Rattle.std.specs.Prelude.{List, [], ◌∷◌, ◌++◌, ℕ, zero, suc, ◌
 use Rattle.basis.specs.Pick.{pick}
 use Rattle.basis.specs.Text.{hex_digit}
 use Rattle.hex_line.specs.Line.{sum_of}
-use Rattle.intel_hex.specs.declared.Written.{Written}
+use Rattle.std.specs.Prelude.{Result, Ok, Err}
+use Rattle.intel_hex.specs.declared.errors.WriteError.{WriteError}
+use Rattle.intel_hex.specs.declared.errors.WriteError.TheVariants.{TooLarge, NoRoom}
+
+-- what writing answers: a refusal, and the text's length; 0 where there is none
+pub record Written : Type 0 where
+  pub refusal : ℕ
+  pub length : ℕ
 
 -- "capitals on output", two digits a byte
 unfoldable pub digits_of : List ℕ → List ℕ
@@ -41,3 +48,12 @@ write_of p room =
 -- "nothing written" where it is refused; what stands behind the text stays
 abbrev pub buffer_of : List ℕ → List ℕ → List ℕ
 buffer_of p o = pick (eqb (write_of p (length o)).refusal 0) (text_of p ++ drop (length (text_of p)) o) o
+
+-- ---- the code's errors, "57 a program buffer above 65,536 bytes", "58 an output too short"; and what the code answers
+abbrev pub number_of : WriteError → ℕ
+number_of TooLarge = 57
+number_of NoRoom = 58
+
+abbrev pub write_said : Result ℕ WriteError → Written
+write_said (Ok n) = written 0 n
+write_said (Err error) = written (number_of error) 0

@@ -1,53 +1,33 @@
 // The first pass: the first faulty line. Nothing is written.
 ghost use Rattle.std.specs.Prelude.{◌≡◌};
 ghost use Rattle.hex_line.specs.Line.{lines_of};
-ghost use Rattle.intel_hex.specs.Reading.{checked};
+ghost use Rattle.intel_hex.specs.Reading.{checked, read_said};
 
-use hex_line::{address, count, fault, kind, line_at};
-
-// What reading answers: a refusal and the number of its line, both 0 where nothing is refused.
-#[derive(Clone, Copy)]
-pub struct Read {
-    pub refusal: u8,
-    pub line: usize,
-}
+use crate::errors::ReadError;
+use hex_line::{Lines, address, count, fault, kind};
 
 // Whether a text can be read into a program of `size` bytes.
-pub fn check(text: &[u8], size: usize) -> Read
-    ensures { result ≡ checked size 1 0 (lines_of text.now) }
+pub fn check(text: &[u8], size: usize) -> Result<(), ReadError>
+    ensures { read_said result ≡ checked size 1 0 (lines_of text.now) }
 {
-    let mut at: usize = 0;
+    let mut lines = Lines::of(text);
     let mut end: usize = 0;
     let mut number: usize = 1;
-    while at < text.len() {
-        let found = line_at(text, at);
-        let stop = found.stop;
-        let line = &text[at..stop];
-        let refusal = fault(line, size, end);
-        if refusal != 0 {
-            return Read {
-                refusal,
+    while let Some(line) = lines.next() {
+        if let Err(fault) = fault(line, size, end) {
+            return Err(ReadError::Fault {
                 line: number,
-            };
+                fault,
+            });
         }
         number += 1;
         if kind(line) == 1 {
-            if found.next < text.len() {
-                return Read {
-                    refusal: 56,
-                    line: number,
-                };
-            }
-            return Read {
-                refusal: 0,
-                line: 0,
+            return match lines.next() {
+                None => Ok(()),
+                Some(_) => Err(ReadError::End { line: number }),
             };
         }
         end = address(line) as usize + count(line) as usize;
-        at = found.next;
     }
-    Read {
-        refusal: 56,
-        line: number,
-    }
+    Err(ReadError::End { line: number })
 }

@@ -12,21 +12,8 @@ fn fill_line(line: &[u8], program: &mut [u8])
     ensures { program.new ≡ sets program.old (address_of line.now) (data_of line.now) }
 {
     let at = address(line) as usize;
-    let n = count(line);
-    let mut j: u8 = 0;
-    while j < n {
+    for j in 0..count(line) {
         program[at + j as usize] = byte(line, j as u16 + 4);
-        j += 1;
-    }
-}
-
-fn blank(program: &mut [u8])
-    ensures { program.new ≡ replicate (length program.old) 255 }
-{
-    let mut i: usize = 0;
-    while i < program.len() {
-        program[i] = 255;
-        i += 1;
     }
 }
 
@@ -34,12 +21,12 @@ pub(crate) fn fill(text: &[u8], program: &mut [u8])
     requires { (checked (length program.old) 1 0 (lines_of text.now)).refusal ≡ 0 }
     ensures { program.new ≡ filled (lines_of text.now) (replicate (length program.old) 255) }
 {
-    blank(program);
-    let mut at: usize = 0;
-    while at < text.len() {
+    program.fill(255);
+    let mut rest = text;
+    while !rest.is_empty() {
         // no search for the line's end: a line without a fault is as long as its count says
-        let stop = at + count(&text[at..]) as usize * 2 + 11;
-        fill_line(&text[at..stop], program);
-        at = stop + end_length(text, stop);
+        let (line, behind) = rest.split_at(count(rest) as usize * 2 + 11);
+        fill_line(line, program);
+        rest = &behind[end_length(behind, 0)..];
     }
 }

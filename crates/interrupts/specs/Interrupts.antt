@@ -19,13 +19,12 @@
 -- most two ticks an instruction.
 --
 -- p is a program, s core and data, o an offer, v what is offered at each tick, n how many instructions the stretch has; t, r and u are numbers of ticks.
-use Rattle.std.specs.Prelude.{◌≡◌, ◌⊎◌, ◌↔◌, Bool, true, false, ◌&&◌, List, ℕ, suc, ◌+◌, ◌*◌, ◌-◌, ◌≤◌, ◌<◌, eqb, get_or}
+use Rattle.std.specs.Prelude.{◌≡◌, ◌⊎◌, ◌↔◌, Bool, true, false, ◌&&◌, List, ℕ, suc, ◌+◌, ◌*◌, ◌-◌, ◌≤◌, ◌<◌, eqb, get_or, None}
 use Rattle.instruction.specs.Decode.{decode_of}
 use Rattle.memory.specs.Memory.{has_word_of}
 use Rattle.cores.specs.declared.Core.{Core}
 use Rattle.cores.specs.Flow.{op_at}
 use Rattle.tick.specs.Offer.{Offer}
-use Rattle.std.specs.Prelude.{None}
 use Rattle.tick.specs.Tick.{Tick, tick_of, number_of}
 use Rattle.interrupts.specs.RegisterOnly.{register_only, kind_of, is_return}
 use Rattle.interrupts.specs.Handlers.{iterated, First, NotYet, FirstReti, OfHandler, counted_at, handler_ticks}

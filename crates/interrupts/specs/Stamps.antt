@@ -1,9 +1,8 @@
 -- Demand 3 at work: two stamps an hour apart, in minutes of the day, 13:00 (780, 0x030C) in R17:R16 and 14:00 (840, 0x0348) in R19:R18.
 -- Their high bytes are the same, so that all hangs on the borrow that CP leaves to CPC. An interrupt comes between the two.
-use Rattle.std.specs.Prelude.{◌≡◌, List, [], ◌∷◌, ℕ, ◌+◌, ◌/◌, ◌%◌, ◌-◌, ◌<◌, ◌≤◌, eqb, replicate}
+use Rattle.std.specs.Prelude.{◌≡◌, List, [], ◌∷◌, ℕ, ◌+◌, ◌/◌, ◌%◌, ◌-◌, ◌<◌, ◌≤◌, eqb, replicate, Some, None}
 use Rattle.basis.specs.Pick.{pick}
 use Rattle.cores.specs.State.{reg, fresh_of, with_reg, with_sreg}
-use Rattle.std.specs.Prelude.{Some, None}
 use Rattle.interrupts.specs.Handlers.{First, FirstReti}
 use Rattle.interrupts.specs.Interrupts.{State, Offers, no_offers, after, sp, byte_at, number_at, returns, Ended, Begins, Assumed, AssumedTo, NoTrace}
 

@@ -1,10 +1,9 @@
 -- What every tick keeps. The program is only read: `tick_of` takes it and gives none back.
-use Rattle.std.specs.Prelude.{◌≡◌, ◌⊎◌, List, ℕ, ◌≤◌, ◌<◌}
+use Rattle.std.specs.Prelude.{◌≡◌, ◌⊎◌, List, ℕ, ◌≤◌, ◌<◌, Some, None}
 use Rattle.basis.specs.Bytes.{Bytes}
 use Rattle.cores.specs.declared.Core.{Core}
 use Rattle.cores.specs.State.{Sound}
 use Rattle.tick.specs.Offer.{Offer}
-use Rattle.std.specs.Prelude.{Some, None}
 use Rattle.tick.specs.declared.Answer.TheVariants.{Refused}
 use Rattle.tick.specs.Tick.{Tick, tick_of, number_of}
 use Rattle.invariants.specs.Instructions.{InRange}

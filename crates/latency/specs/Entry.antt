@@ -2,7 +2,7 @@
 -- eighth tick, provided no tick refuses or stops, no RETI runs meanwhile and, under the chip rule, no BSET 7 does. .. The ticks are those that the run reports."
 -- k is a core, p a program, m the bytes of data, v what is offered by the tick's number, from 1, j a number of ticks done, so that the next is number j + 1, o an offer, b a budget, l the bytes of a
 -- list, i the number of a record, from 0.
-use Rattle.std.specs.Prelude.{◌≡◌, ◌⊎◌, Bool, true, false, not, ◌&&◌, ◌||◌, List, [], ◌∷◌, ℕ, zero, suc, ◌+◌, ◌/◌, ◌≤◌, ◌<◌, leb, ltb, length}
+use Rattle.std.specs.Prelude.{◌≡◌, ◌⊎◌, Bool, true, false, not, ◌&&◌, ◌||◌, List, [], ◌∷◌, ℕ, zero, suc, ◌+◌, ◌/◌, ◌≤◌, ◌<◌, leb, ltb, length, Some}
 use Rattle.basis.specs.Pick.{pick}
 use Rattle.instruction.specs.Code.{one_of, is_sei}
 use Rattle.instruction.specs.Decode.{decode_of}
@@ -13,7 +13,6 @@ use Rattle.cores.specs.State.{flag}
 use Rattle.cores.specs.Flow.{op_at}
 use Rattle.tick.specs.Tick.{number_of, refuses, stops}
 use Rattle.tick.specs.Offer.{Offer}
-use Rattle.std.specs.Prelude.{Some}
 use Rattle.tick.specs.declared.Answer.TheVariants.{Entered}
 use Rattle.run.specs.Run.{run_of, after_ticks, tick_after, goes_on}
 use Rattle.run.specs.Lent.{offers}

@@ -1,11 +1,10 @@
 -- Eight is the figure: an example that needs all eight ticks; for each premise one where it alone does not hold and eight ticks bring no entry; and instructions of four ticks and of two. Computed.
 -- v is what is offered by the tick's number, from 1, k a core, p a program.
-use Rattle.std.specs.Prelude.{◌≡◌, Bool, true, false, List, [], ◌∷◌, ◌++◌, ℕ, zero, suc, ◌-◌, eqb, replicate}
+use Rattle.std.specs.Prelude.{◌≡◌, Bool, true, false, List, [], ◌∷◌, ◌++◌, ℕ, zero, suc, ◌-◌, eqb, replicate, Some, None}
 use Rattle.basis.specs.Pick.{pick}
 use Rattle.cores.specs.declared.Core.{Core}
 use Rattle.cores.specs.State.{fresh_of, with_sreg, with_sp, with_busy, with_inhibit, with_service, with_chip}
 use Rattle.tick.specs.Offer.{Offer}
-use Rattle.std.specs.Prelude.{Some, None}
 use Rattle.run.specs.Run.{run_of}
 use Rattle.schedule.specs.Laws.{number_at}
 use Rattle.latency.specs.Entry.{answer_at, busy_at_most3, not_in_service, vector_offered, i_set, none_ends, has_no_reti, has_no_sei, Waiting}

@@ -8,14 +8,10 @@ const PROGRAM: u64 = 131072 + 1;
 // The longest listing: a line for each word.
 const TEXT: usize = 65536 * 49;
 
-fn print(rt: &impl Print, program: &[u8], out: &mut [u8]) -> io::Result<()> {
-    let end = listing::list(program, out);
-    rt.write_all(&out[..end])
-}
-
 fn main(rt: HostRuntime) -> io::Result<()> {
     let mut program = Vec::new(rt.alloc());
     rt.reader().take(PROGRAM).read_to_end(&mut program)?;
     let mut out = vec![in rt.alloc(); 0u8; TEXT]?;
-    print(&rt, &program, &mut out)
+    let end = listing::list(&program, &mut out);
+    rt.write_all(&out[..end])
 }

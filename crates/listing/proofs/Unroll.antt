@@ -1,10 +1,8 @@
--- One turn of a listing of p: a is the address of the next line, r the row there, k how many words it has, h the buffer with its line.
+-- One turn of a listing of p: a is the address of the next line, r the row there, k how many words it has.
 -- Assumes nothing.
-use Rattle.std.proofs.Common.{◌≡◌, ℕ, zero, suc, ◌+◌, ◌-◌, ◌*◌, ◌/◌, ◌<◌, ◌≤◌, ltb, List, [], ◌∷◌, length, sym, refl, ap, arith, le-ltb, lt-ltb}
+use Rattle.std.proofs.Common.{◌≡◌, ℕ, zero, suc, ◌+◌, ◌-◌, ◌*◌, ◌/◌, ◌<◌, ◌≤◌, ltb, List, [], ◌∷◌, ◌++◌, length, refl, ap, arith, le-ltb, lt-ltb}
 use native.Mathlib.Nat.{sub-zero}
 use Rattle.basis.specs.Pick.{pick}
-use Rattle.page.specs.Page.{Page, with_text, Puts}
-use Rattle.page.proofs.Laid.{none, in_order}
 use Rattle.listing.specs.declared.row.Row.{Row}
 use Rattle.listing.specs.declared.row.Row.TheVariants.{Lone, Single, Double}
 use Rattle.listing.specs.Listing.{Line, row_at, words_in, line_text, lines_from, lines_of, text_of}
@@ -33,10 +31,10 @@ rest p a = lines_from ((length p + 1) / 2 - a) p a
 pub begun : (p : List ℕ) → text_of (lines_of p) ≡ text_of (rest p 0)
 begun p = rw sub-zero
 
-module _ (p : List ℕ) (a : ℕ) (g : Page) where
-  pub spent : length p ≤ a * 2 → with_text g (text_of (rest p a)) ≡ g
+module _ (p : List ℕ) (a : ℕ) where
+  pub spent : length p ≤ a * 2 → text_of (rest p a) ≡ []
   unfolding lines_from
-  spent h = let z : (length p + 1) / 2 - a ≡ 0 = omega arith in rw z (sym (none g).is)
+  spent h = let z : (length p + 1) / 2 - a ≡ 0 = omega arith in rw z
 
   next : a * 2 < length p → rest p a ≡ record { at = a; row = row_at p a } ∷ rest p (a + words_in (row_at p a))
   unfolding lines_from
@@ -46,6 +44,5 @@ module _ (p : List ℕ) (a : ℕ) (g : Page) where
       let one = some_word (row_at p a) in
       rw (less, lt-ltb (a * 2) (length p) l, enough p ((length p + 1) / 2 - (a + 1)) ((length p + 1) / 2 - (a + k)) (a + k) (omega arith) (omega arith))
 
-  pub goes_on : (r : Row) (k : ℕ) (h : Page) → a * 2 < length p → r ≡ row_at p a → k ≡ words_in r → Puts g (line_text a r) h
-      → with_text g (text_of (rest p a)) ≡ with_text h (text_of (rest p (a + k)))
-  goes_on r k h l is words line = rw (next l, ← is, ← words, in_order g (line_text a r) (text_of (rest p (a + k))), ← line.is)
+  pub goes_on : (r : Row) (k : ℕ) → a * 2 < length p → r ≡ row_at p a → k ≡ words_in r → text_of (rest p a) ≡ line_text a r ++ text_of (rest p (a + k))
+  goes_on r k l is words = rw (next l, ← is, ← words)

@@ -1,5 +1,5 @@
 -- The manual's names in the order of the enum; the Rust's forms of LD, LDD, LPM, ST and STD have one name, and a word that is undefined is shown as a word.
-use Rattle.std.specs.Prelude.{◌≡◌, ℕ, ◌+◌, ◌-◌, ◌*◌, ◌≤◌, List, [], ◌∷◌, take, drop, slice_index, slice_index_or}
+use Rattle.std.specs.Prelude.{ℕ, List, [], ◌∷◌, slice_index_or}
 use Prim.Native.String.{String}
 use Rattle.basis.specs.Text.{text}
 
@@ -17,12 +17,3 @@ names =
 -- the name at a place, and none behind the last
 unfoldable pub name_text : ℕ → List ℕ
 name_text n = text (slice_index_or names n "")
-
--- the code's table t: seven bytes a name, a digit that says how long it is and its letters
-pub record EntryAt (t : List ℕ) (n : ℕ) : Type 0 where
-  pub low : 48 ≤ slice_index t (n * 7)
-  pub high : slice_index_or t (n * 7) 0 ≤ 54
-  pub letters : take (slice_index t (n * 7) - 48) (drop (n * 7 + 1) t) ≡ name_text n
-
-abbrev pub Named : List ℕ → Type 0
-Named t = (n : ℕ) → n ≤ 86 → EntryAt t n

@@ -1,63 +1,62 @@
 // A line: the word address, the words, and what they say, from the sixteenth column on.
-ghost use Rattle.page.specs.Page.{page, Puts};
+ghost use Rattle.page.specs.Gains.{Gains};
 ghost use Rattle.listing.specs.Listing.{row_text, line_text};
 ghost use Rattle.listing.specs.Shown.{said_of};
 
-use crate::name::put_name;
 use crate::operand::put_operand;
 use crate::row::Row;
 use crate::shown::{Shown, shown_of};
-use page::{put_byte, put_hex2, put_hex4, put_text};
+use page::Page;
 
-fn put_shown(out: &mut [u8], at: usize, pc: u16, shown: Shown) -> usize
-    ensures { Puts (page out.old at) (said_of pc shown) (page out.new result) }
+fn put_shown(page: &mut Page<'_>, pc: u16, shown: Shown)
+    ensures { Gains page.old (said_of pc shown) page.new }
 {
     match shown {
-        Shown::Bare(name) => put_name(out, at, name),
+        Shown::Bare(name) => page.put_text(name),
         Shown::One(name, first) => {
-            let at = put_name(out, at, name);
-            let at = put_byte(out, at, b' ');
-            put_operand(out, at, pc, first)
+            page.put_text(name);
+            page.put_byte(b' ');
+            put_operand(page, pc, first);
         }
         Shown::Two(name, first, second) => {
-            let at = put_name(out, at, name);
-            let at = put_byte(out, at, b' ');
-            let at = put_operand(out, at, pc, first);
-            let at = put_text(out, at, b", ");
-            put_operand(out, at, pc, second)
+            page.put_text(name);
+            page.put_byte(b' ');
+            put_operand(page, pc, first);
+            page.put_text(b", ");
+            put_operand(page, pc, second);
         }
     }
 }
 
-fn put_row(out: &mut [u8], at: usize, pc: u16, row: Row) -> usize
-    ensures { Puts (page out.old at) (row_text pc row) (page out.new result) }
+fn put_row(page: &mut Page<'_>, pc: u16, row: Row)
+    ensures { Gains page.old (row_text pc row) page.new }
 {
     match row {
         Row::Lone(b) => {
-            let at = put_hex2(out, at, b);
-            let at = put_text(out, at, b"        .byte 0x");
-            put_hex2(out, at, b)
+            page.put_hex2(b);
+            page.put_text(b"        .byte 0x");
+            page.put_hex2(b);
         }
         Row::Single(w, op) => {
-            let at = put_hex4(out, at, w);
-            let at = put_text(out, at, b"      ");
-            put_shown(out, at, pc, shown_of(op, w))
+            page.put_hex4(w);
+            page.put_text(b"      ");
+            put_shown(page, pc, shown_of(op, w));
         }
         Row::Double(w, s, op) => {
-            let at = put_hex4(out, at, w);
-            let at = put_byte(out, at, b' ');
-            let at = put_hex4(out, at, s);
-            let at = put_byte(out, at, b' ');
-            put_shown(out, at, pc, shown_of(op, w))
+            page.put_hex4(w);
+            page.put_byte(b' ');
+            page.put_hex4(s);
+            page.put_byte(b' ');
+            put_shown(page, pc, shown_of(op, w));
         }
     }
 }
 
-pub(crate) fn put_line(out: &mut [u8], at: usize, pc: u16, row: Row) -> usize
-    ensures { Puts (page out.old at) (line_text pc row) (page out.new result) }
+pub(crate) fn put_line(page: &mut Page<'_>, pc: u16, row: Row)
+    ensures { Gains page.old (line_text pc row) page.new }
 {
-    let at = put_hex4(out, at, pc);
-    let at = put_byte(out, at, b' ');
-    let at = put_row(out, at, pc, row);
-    put_byte(out, at, b'\n')
+    page.put_hex4(pc);
+    page.put_byte(b' ');
+    put_row(page, pc, row);
+    page.put_byte(b'\n');
 }

@@ -1,9 +1,9 @@
 // An operand's text.
-ghost use Rattle.std.specs.Prelude.{◌≡◌, ◌+◌, ◌<◌};
-ghost use Rattle.page.specs.Page.{page, Puts};
+ghost use Rattle.std.specs.Prelude.{◌≡◌};
+ghost use Rattle.page.specs.Gains.{Gains};
 ghost use Rattle.listing.specs.Listing.{ahead, register_text, pair_text, byte_text, word_text, target_text, displaced_text, operand_text};
 
-use page::{put_byte, put_decimal, put_hex2, put_hex4, put_text};
+use page::Page;
 
 #[derive(Clone, Copy)]
 pub(crate) enum Operand {
@@ -31,75 +31,74 @@ pub(crate) enum Operand {
 fn ahead(pc: u16, offset: u16) -> u16
     ensures { result ≡ ahead pc offset }
 {
-    std::num::wrapping_add_u16(std::num::wrapping_add_u16(pc, 1), offset)
+    pc.wrapping_add(1).wrapping_add(offset)
 }
 
-fn put_register(out: &mut [u8], at: usize, d: u16) -> usize
-    ensures { Puts (page out.old at) (register_text d) (page out.new result) }
+fn put_register(page: &mut Page<'_>, d: u16)
+    ensures { Gains page.old (register_text d) page.new }
 {
-    let at = put_byte(out, at, b'R');
-    put_decimal(out, at, d)
+    page.put_byte(b'R');
+    page.put_decimal(d);
 }
 
-fn put_pair(out: &mut [u8], at: usize, d: u16) -> usize
-    requires { d + 1 < 65536 }
-    ensures { Puts (page out.old at) (pair_text d) (page out.new result) }
+fn put_pair(page: &mut Page<'_>, d: u8)
+    ensures { Gains page.old (pair_text d) page.new }
 {
-    let at = put_register(out, at, d + 1);
-    let at = put_byte(out, at, b':');
-    put_register(out, at, d)
+    put_register(page, d as u16 + 1);
+    page.put_byte(b':');
+    put_register(page, d as u16);
 }
 
-fn put_byte_number(out: &mut [u8], at: usize, x: u8) -> usize
-    ensures { Puts (page out.old at) (byte_text x) (page out.new result) }
+fn put_byte_number(page: &mut Page<'_>, x: u8)
+    ensures { Gains page.old (byte_text x) page.new }
 {
-    let at = put_text(out, at, b"0x");
-    put_hex2(out, at, x)
+    page.put_text(b"0x");
+    page.put_hex2(x);
 }
 
-fn put_word_number(out: &mut [u8], at: usize, x: u16) -> usize
-    ensures { Puts (page out.old at) (word_text x) (page out.new result) }
+fn put_word_number(page: &mut Page<'_>, x: u16)
+    ensures { Gains page.old (word_text x) page.new }
 {
-    let at = put_text(out, at, b"0x");
-    put_hex4(out, at, x)
+    page.put_text(b"0x");
+    page.put_hex4(x);
 }
 
-fn put_target(out: &mut [u8], at: usize, k: u32) -> usize
-    ensures { Puts (page out.old at) (target_text k) (page out.new result) }
+fn put_target(page: &mut Page<'_>, k: u32)
+    ensures { Gains page.old (target_text k) page.new }
 {
-    let at = put_byte_number(out, at, (k / 65536 % 256) as u8);
-    put_hex4(out, at, (k % 65536) as u16)
+    put_byte_number(page, (k / 65536 % 256) as u8);
+    page.put_hex4((k % 65536) as u16);
 }
 
-fn put_displaced(out: &mut [u8], at: usize, pointer: u8, q: u8) -> usize
-    ensures { Puts (page out.old at) (displaced_text pointer q) (page out.new result) }
+fn put_displaced(page: &mut Page<'_>, pointer: u8, q: u8)
+    ensures { Gains page.old (displaced_text pointer q) page.new }
 {
-    let at = put_byte(out, at, pointer);
-    let at = put_byte(out, at, b'+');
-    put_decimal(out, at, q as u16)
+    page.put_byte(pointer);
+    page.put_byte(b'+');
+    page.put_decimal(q as u16);
 }
 
-pub(crate) fn put_operand(out: &mut [u8], at: usize, pc: u16, operand: Operand) -> usize
-    ensures { Puts (page out.old at) (operand_text pc operand) (page out.new result) }
+pub(crate) fn put_operand(page: &mut Page<'_>, pc: u16, operand: Operand)
+    ensures { Gains page.old (operand_text pc operand) page.new }
 {
     match operand {
-        Operand::Register(d) => put_register(out, at, d as u16),
-        Operand::Pair(d) => put_pair(out, at, d as u16),
-        Operand::Byte(x) => put_byte_number(out, at, x),
-        Operand::Word(k) => put_word_number(out, at, k),
-        Operand::Target(k) => put_target(out, at, k),
-        Operand::Number(b) => put_decimal(out, at, b as u16),
-        Operand::Branch(k) => put_word_number(out, at, ahead(pc, alu::signed(k))),
-        Operand::Relative(k) => put_word_number(out, at, ahead(pc, k)),
-        Operand::X => put_text(out, at, b"X"),
-        Operand::XInc => put_text(out, at, b"X+"),
-        Operand::XDec => put_text(out, at, b"-X"),
-        Operand::YInc => put_text(out, at, b"Y+"),
-        Operand::YDec => put_text(out, at, b"-Y"),
-        Operand::YPlus(q) => put_displaced(out, at, b'Y', q),
-        Operand::Z => put_text(out, at, b"Z"),
-        Operand::ZInc => put_text(out, at, b"Z+"),
-        Operand::ZDec => put_text(out, at, b"-Z"),
-        Operand::ZPlus(q) => put_displaced(out, at, b'Z', q),
+        Operand::Register(d) => put_register(page, d as u16),
+        Operand::Pair(d) => put_pair(page, d),
+        Operand::Byte(x) => put_byte_number(page, x),
+        Operand::Word(k) => put_word_number(page, k),
+        Operand::Target(k) => put_target(page, k),
+        Operand::Number(b) => page.put_decimal(b as u16),
+        Operand::Branch(k) => put_word_number(page, ahead(pc, alu::signed(k))),
+        Operand::Relative(k) => put_word_number(page, ahead(pc, k)),
+        Operand::X => page.put_text(b"X"),
+        Operand::XInc => page.put_text(b"X+"),
+        Operand::XDec => page.put_text(b"-X"),
+        Operand::YInc => page.put_text(b"Y+"),
+        Operand::YDec => page.put_text(b"-Y"),
+        Operand::YPlus(q) => put_displaced(page, b'Y', q),
+        Operand::Z => page.put_text(b"Z"),
+        Operand::ZInc => page.put_text(b"Z+"),
+        Operand::ZDec => page.put_text(b"-Z"),
+        Operand::ZPlus(q) => put_displaced(page, b'Z', q),
     }
 }

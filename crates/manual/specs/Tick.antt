@@ -1,6 +1,6 @@
 -- A tick by the manual. The instruction, its opcode and what stands behind PC 65,535 are the manual's; the waits, the entry and the refusals, which the manual
 -- leaves to the device, are 01's.
-use Rattle.std.specs.Prelude.{false, ◌&&◌, List, ℕ, ◌+◌, ◌-◌, eqb, ltb}
+use Rattle.std.specs.Prelude.{false, ◌&&◌, List, ℕ, ◌+◌, ◌-◌, eqb, ltb, Some, None}
 use Rattle.basis.specs.Pick.{pick}
 use Rattle.instruction.specs.Decode.{decode_of}
 use Rattle.instruction.specs.Code.{two_words}
@@ -10,7 +10,6 @@ use Rattle.cores.specs.declared.Core.{Core}
 use Rattle.cores.specs.State.{with_busy, with_pc, with_inhibit}
 use Rattle.execute.specs.Needs.{Needs, refusal, needs, fetched, with_fetch}
 use Rattle.tick.specs.Offer.{Offer}
-use Rattle.std.specs.Prelude.{Some, None}
 use Rattle.tick.specs.declared.Answer.TheVariants.{Refused, Waited, End}
 use Rattle.tick.specs.Tick.{Tick, due, entered}
 use Rattle.manual_opcodes.specs.Opcodes.{manual_decode}

@@ -1,10 +1,9 @@
 -- One tick for each listed difference, under each rule that has it: the manual's way, the switch alone turned off, and the port's. A fresh core but for its rule and what is named, the words at PC 0,
 -- one byte of data, no offer. `see` is what shows the difference; 1000 stands for undefined, and 2000 for asleep.
-use Rattle.std.specs.Prelude.{◌≡◌, Bool, true, false, List, [], ◌∷◌, ℕ}
+use Rattle.std.specs.Prelude.{◌≡◌, Bool, true, false, List, [], ◌∷◌, ℕ, None}
 use Rattle.basis.specs.Bit.{one}
 use Rattle.cores.specs.declared.Core.{Core}
 use Rattle.cores.specs.State.{fresh_of, with_reg, with_pc, with_sp, with_chip}
-use Rattle.std.specs.Prelude.{None}
 use Rattle.tick.specs.Tick.{number_of, tick_of}
 use Rattle.manual.specs.Switches.{adiw_v, loads, stores, after_sei, unknown, outside, end, target, pointers, Switches, the_manual, base_but, Says, undefined, sleeps, says}
 use Rattle.manual.specs.Tick.{told, tick_by}

@@ -14,13 +14,10 @@ pub fn has(bytes: &[u8], address: usize) -> bool
 pub fn read(bytes: &[u8], address: usize) -> u8
     ensures { result ≡ get_or bytes.now address 0 }
 {
-    if address < bytes.len() {
-        bytes[address]
-    } else {
-        0
-    }
+    bytes.get(address).copied().unwrap_or(0)
 }
 
+// By `get_mut` the proof of what a refused write leaves did not close.
 pub fn write(bytes: &mut [u8], address: usize, value: u8)
     ensures { bytes.new ≡ set bytes.old address value }
 {
@@ -34,25 +31,27 @@ pub fn read_word(bytes: &[u8], address: usize) -> u16
     ensures { result ≡ word_of bytes.now address }
 {
     if address < bytes.len() {
-        let bl = read(bytes, address);
-        let bh = read(bytes, address + 1);
-        bh as u16 * 256 + bl as u16
+        u16::from_le_bytes([read(bytes, address), read(bytes, address + 1)])
     } else {
         0
     }
 }
 
 // The word at a PC; of one that is cut off by the end, its low byte. A whole word is looked for once, so that it is read at once.
+#[tactic(auto, unfolding(crate::specs::Memory::has_word_of, crate::specs::Memory::program_word_of))]
 pub fn get_progmem(program: &[u8], pc: u32) -> u16
     ensures { result ≡ program_word_of program.now pc }
 {
+    let address = pc as usize * 2;
     if has_word(program, pc) {
-        return read_word(program, pc as usize * 2);
+        read_word(program, address)
+    } else {
+        read(program, address) as u16
     }
-    read(program, pc as usize * 2) as u16
 }
 
 // Whether the word at a PC is wholly in the program.
+#[tactic(auto, unfolding(crate::specs::Memory::has_word_of))]
 pub fn has_word(program: &[u8], pc: u32) -> bool
     ensures { result ≡ has_word_of program.now pc }
 {

@@ -1,32 +1,33 @@
-// A lent buffer that a text is put into, from `at` on; what does not fit is dropped. Each hands back where the text ends.
-#![tactic(auto)]
+// A lent buffer that a text is put into, from `at` on; what does not fit is dropped.
+#![tactic(auto, using(crate::proofs::Gained::none))]
 
 ghost use Rattle.std.specs.Prelude.{[], ◌∷◌};
-ghost use Rattle.page.specs.Page.{page, Puts};
+ghost use Rattle.page.specs.Gains.{Gains};
 
 mod numbers;
 
-pub use numbers::{put_decimal, put_hex2, put_hex4};
-
-pub fn put_byte(out: &mut [u8], at: usize, b: u8) -> usize
-    ensures { Puts (page out.old at) (b ∷ []) (page out.new result) }
-{
-    if at < out.len() {
-        out[at] = b;
-        at + 1
-    } else {
-        at
-    }
+// Where the next byte goes, which may be anywhere.
+#[derive(Drop)]
+pub struct Page<'a> {
+    pub out: &'a mut [u8],
+    pub at: usize,
 }
 
-pub fn put_text(out: &mut [u8], at: usize, text: &[u8]) -> usize
-    ensures { Puts (page out.old at) text.now (page out.new result) }
-{
-    let mut end = at;
-    let mut i: usize = 0;
-    while i < text.len() {
-        end = put_byte(out, end, text[i]);
-        i += 1;
+impl Page<'_> {
+    pub fn put_byte(&mut self, b: u8)
+        ensures { Gains self.old (b ∷ []) self.new }
+    {
+        if self.at < self.out.len() {
+            self.out[self.at] = b;
+            self.at += 1;
+        }
     }
-    end
+
+    pub fn put_text(&mut self, text: &[u8])
+        ensures { Gains self.old text.now self.new }
+    {
+        for b in text {
+            self.put_byte(*b);
+        }
+    }
 }

@@ -3,6 +3,7 @@
 use Rattle.instruction.specs.Fields.{FieldsInRange, SecondWordAlone}
 use Rattle.invariants.specs.Instructions.{InstructionsStayInRange, InstructionsWaitAtMost3, OtherRegistersKept, RegisterOnlyKeepsTheRest, OnlyRetiAndSeiTouchTheFlags}
 use Rattle.invariants.specs.Ticks.{TicksAnswerTickNumbers}
+use Rattle.run.specs.Run.{EndsHaveTheirNumbers}
 use Rattle.source.specs.Bench.{BenchOnTheRust, FreshCoresAreSound}
 use Rattle.table.specs.Calls.{TickCallsWriteTheNextCore, RunCallsWriteTheLastCore}
 use Rattle.tracing.specs.Trace.{Example, WholeTrace, CutTrace}
@@ -22,6 +23,8 @@ pub record Claims : Type 0 where
   -- crates/table/specs/Calls.antt: the snapshot after a call that is not refused
   pub tick_call_writes : TickCallsWriteTheNextCore
   pub run_call_writes : RunCallsWriteTheLastCore
+  -- crates/run/specs/Run.antt: how a run ended, as the code says it, has the number that it answers with
+  pub ends_numbered : EndsHaveTheirNumbers
   -- crates/tracing/specs/Trace.antt: 01's example; that the program's buffers cut off no trace, and no input that counts
   pub trace_example : Example
   pub whole_trace : WholeTrace

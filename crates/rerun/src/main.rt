@@ -8,14 +8,10 @@ const INPUT: u64 = 62 + 4 * 65536 + 65536 + 1048576 + 1048576;
 // An answer, a state and the list of 65,536 records.
 const OUTPUT: usize = 48 + 4 * 65536 + 65536 + 5 * 65536;
 
-fn write(rt: &impl Print, input: &[u8], out: &mut [u8]) -> io::Result<()> {
-    let end = rerunning::rerun(input, out);
-    rt.write_all(&out[..end])
-}
-
 fn main(rt: HostRuntime) -> io::Result<()> {
     let mut input = Vec::new(rt.alloc());
     rt.reader().take(INPUT).read_to_end(&mut input)?;
     let mut out = vec![in rt.alloc(); 0u8; OUTPUT]?;
-    write(&rt, &input, &mut out)
+    let end = rerunning::rerun(&input, &mut out);
+    rt.write_all(&out[..end])
 }

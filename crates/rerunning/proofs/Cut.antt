@@ -13,9 +13,9 @@ use Rattle.basis.specs.Pick.{pick}
 use Rattle.basis.proofs.Choice.{test}
 use Rattle.rerunning.specs.Rerun.{number_in, job_of, part, told_of, written_of, rerun_of}
 use Rattle.rerunning.specs.declared.job.Job.{Job}
-use Rattle.rerunning.specs.declared.job.Job.TheVariants.{Bad, Run}
+use Rattle.std.specs.Prelude.{Option, Some, None}
 use Rattle.rerunning.specs.Laws.{CutRerun}
-use Rattle.rerunning.proofs.Within.{job, Within, job_within}
+use Rattle.rerunning.proofs.Within.{taken, job, Within, job_within}
 
 module _ (s : List ℕ) (n : ℕ) where
   number_cut : (at : ℕ) → at + 3 < n → number_in (take n s) at ≡ number_in s at
@@ -36,8 +36,8 @@ module _ (s : List ℕ) (n : ℕ) where
 -- no job asks for more than 2,424,894 bytes: n are there, or m
 asks_less : (hex schedule size budget done entered n m : ℕ) (a b c d : Bool) → ltb 1048576 hex ≡ a → ltb 1048576 schedule ≡ b → ltb 65536 size ≡ c → ltb 65536 entered ≡ d → 2424894 ≤ n → 2424894 ≤ m
     → let asked = 62 + 4 * entered + size + hex + schedule in
-    let job = Run hex schedule size budget done entered in
-    pick (a || b || c || d) Bad (pick (ltb n asked) Bad job) ≡ pick (a || b || c || d) Bad (pick (ltb m asked) Bad job)
+    let job = taken hex schedule size budget done entered in
+    pick (a || b || c || d) None (pick (ltb n asked) None job) ≡ pick (a || b || c || d) None (pick (ltb m asked) None job)
 asks_less hex schedule size budget done entered n m true b c d f g h i u v = refl
 asks_less hex schedule size budget done entered n m false true c d f g h i u v = refl
 asks_less hex schedule size budget done entered n m false false true d f g h i u v = refl
@@ -64,9 +64,15 @@ module _ (s : List ℕ) (n : ℕ) (h : 2424894 ≤ n) (l : n ≤ length s) where
       ∙ ap (λ (x : ℕ). job x hex schedule size (number_in s 12) (number_in s 16) entered) (length-take-le n s l)
       ∙ asks_less hex schedule size (number_in s 12) (number_in s 16) entered n (length s) (ltb 1048576 hex) (ltb 1048576 schedule) (ltb 65536 size) (ltb 65536 entered) refl refl refl refl h (omega (arith, h, l))
 
-  written_cut : (j : Job) → Within (length s) j → written_of j (take n s) ≡ written_of j s
-  written_cut Bad w = refl
-  written_cut (Run hex schedule size budget done entered) w =
+  written_cut : (j : Option Job) → Within (length s) j → written_of j (take n s) ≡ written_of j s
+  written_cut None w = refl
+  written_cut (Some j) w =
+      let hex = j.hex in
+      let schedule = j.schedule in
+      let size = j.size in
+      let budget = j.budget in
+      let done = j.done in
+      let entered = j.entered in
       let hex_le = w.hex_le in
       let schedule_le = w.schedule_le in
       let size_le = w.size_le in
@@ -82,7 +88,7 @@ module _ (s : List ℕ) (n : ℕ) (h : 2424894 ≤ n) (l : n ≤ length s) where
       ∙ ap (told (part s 24 38) (part s 62 (4 * entered)) (part s at size) (part s (at + size) hex)) (cut (at + size + hex) schedule (omega arith))
 
   longer : rerun_of (take n s) ≡ rerun_of s
-  longer = ap (λ (j : Job). written_of j (take n s)) job_cut ∙ written_cut (job_of s) (job_within s)
+  longer = ap (λ (j : Option Job). written_of j (take n s)) job_cut ∙ written_cut (job_of s) (job_within s)
 
 pub cut_rerun : CutRerun
 cut_rerun s =

@@ -3,28 +3,32 @@
 use mathlib.Core.Path.{◌≡◌, refl, sym, ap, ◌∙◌}
 use mathlib.Core.Bool.{Bool, true, false}
 use mathlib.Core.List.{List, [], ◌∷◌, ◌++◌, append_assoc}
-use Prim.Native.Nat.{ℕ, ◌+◌, ◌*◌, ◌/◌, ◌≤◌, ◌<◌}
-use native.Mathlib.Numerals.{add-one}
+use Prim.Native.Nat.{ℕ, ◌+◌, ◌*◌, ◌/◌, ◌≤◌}
 use native.Mathlib.Omega.{arith}
 use lib.Dec.{eqb}
-use lib.ListN.{get_or, take, drop, length, length-append, length-take, drop_of_length-le}
-use lib.Seq.{drop-cons}
-use borrow.Author.Tests.{ne_eqb}
+use lib.ListN.{take, length, length-append, length-take}
+use Rattle.std.specs.Prelude.{not}
+use Rattle.std.specs.List.{take_while}
+use Rattle.std.proofs.lemmas.List.Sums.{take_while-cons}
 use Rattle.schedule.specs.Laws.{entered_of}
 use Rattle.rerunning.specs.Rerun.{four, fours}
 
-module _ (e : List ℕ) (i : ℕ) where
-  pub ends : i < length e → get_or e i 0 ≡ 0 → length (entered_of (drop i e)) ≡ 0
-  unfolding entered_of
-  ends h z = rw (drop-cons e i 0 h, z)
+-- the numbers that come before a 0, as the code looks for them
+abbrev some : ℕ → Bool
+some n = not (eqb n 0)
 
-  pub goes_on : i < length e → (get_or e i 0 ≡ 0 → ⊥) → i + length (entered_of (drop i e)) ≡ i + 1 + length (entered_of (drop (i + 1) e))
-  unfolding entered_of
-  goes_on h n = rw (drop-cons e i 0 h, ne_eqb (get_or e i 0) 0 n, add-one i) (omega arith)
+abbrev while_some : List ℕ → List ℕ
+while_some e = take_while some e
 
-  pub none_left : length e ≤ i → length (entered_of (drop i e)) ≡ 0
-  unfolding entered_of
-  none_left h = rw (drop_of_length-le e {i = i} h)
+counted_by : (n : ℕ) (e : List ℕ) (b : Bool) → eqb n 0 ≡ b → while_some e ≡ entered_of e → while_some (n ∷ e) ≡ entered_of (n ∷ e)
+unfolding entered_of
+counted_by n e true h r = rw (take_while-cons some n e, h)
+counted_by n e false h r = rw (take_while-cons some n e, h) (ap (λ (l : List ℕ). n ∷ l) r)
+
+pub counted : (e : List ℕ) → while_some e ≡ entered_of e
+unfolding entered_of
+counted [] = refl
+counted (n ∷ e) = counted_by n e (eqb n 0) refl (counted e)
 
 -- they are the first of e
 first_by : (n : ℕ) (e : List ℕ) (b : Bool) → eqb n 0 ≡ b → take (length (entered_of e)) e ≡ entered_of e → take (length (entered_of (n ∷ e))) (n ∷ e) ≡ entered_of (n ∷ e)

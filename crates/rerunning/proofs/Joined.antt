@@ -10,8 +10,8 @@ use lib.Seq.{take-append_seam, drop-append_seam, drop-drop, take-length}
 use borrow.Author.Tests.{le-ltb}
 use Rattle.rerunning.specs.Rerun.{number_in, part, State, many_of, job_of, told_of, written_of}
 use Rattle.rerunning.specs.declared.job.Job.{Job}
-use Rattle.rerunning.specs.declared.job.Job.TheVariants.{Run}
-use Rattle.rerunning.proofs.Within.{job}
+use Rattle.std.specs.Prelude.{Option}
+use Rattle.rerunning.proofs.Within.{taken, job}
 use Rattle.rerunning.specs.Laws.{input_of, Limits, JoinedInput}
 
 -- ---- a number's four bytes
@@ -82,7 +82,7 @@ module _ (b : ℕ) (z : State) (t l : List ℕ) (small : b < 4294967296) (w : Li
       let list = length-append (z.core ++ z.entered ++ z.bytes ++ t) l in
       omega (arith, entries, bytes, text, list, w.core, w.whole)
 
-  passes : job (length s) (length t) (length l) (length z.bytes) b z.done (many_of z) ≡ Run (length t) (length l) (length z.bytes) b z.done (many_of z)
+  passes : job (length s) (length t) (length l) (length z.bytes) b z.done (many_of z) ≡ taken (length t) (length l) (length z.bytes) b z.done (many_of z)
   passes =
       rw (
         le-ltb 1048576 (length t) w.hex,
@@ -92,7 +92,7 @@ module _ (b : ℕ) (z : State) (t l : List ℕ) (small : b < 4294967296) (w : Li
         le-ltb (length s) (at + length z.bytes + length t + length l) (omega (arith, all)),
       )
 
-  job_is : job_of s ≡ Run (length t) (length l) (length z.bytes) b z.done (many_of z)
+  job_is : job_of s ≡ taken (length t) (length l) (length z.bytes) b z.done (many_of z)
   job_is =
       ap (λ (x : ℕ). job (length s) x (number_in s 4) (number_in s 8) (number_in s 12) (number_in s 16) (number_in s 20)) hex
       ∙ ap (λ (x : ℕ). job (length s) (length t) x (number_in s 8) (number_in s 12) (number_in s 16) (number_in s 20)) schedule
@@ -104,7 +104,7 @@ module _ (b : ℕ) (z : State) (t l : List ℕ) (small : b < 4294967296) (w : Li
   abbrev told : List ℕ → List ℕ → List ℕ → List ℕ → List ℕ → List ℕ
   told k e m u v = told_of b (record { done = z.done; core = k; entered = e; bytes = m }) u v
 
-  parts : written_of (Run (length t) (length l) (length z.bytes) b z.done (many_of z)) s ≡ told_of b z t l
+  parts : written_of (taken (length t) (length l) (length z.bytes) b z.done (many_of z)) s ≡ told_of b z t l
   parts =
       let n = length z.bytes in
       let e = part s 62 (4 * many_of z) in
@@ -118,4 +118,4 @@ module _ (b : ℕ) (z : State) (t l : List ℕ) (small : b < 4294967296) (w : Li
       ∙ ap (told z.core z.entered z.bytes t) (ap (take (length l)) from_list ∙ take-length l)
 
 pub joined_input : JoinedInput
-joined_input b z t l small w = ap (λ (j : Job). written_of j (s b z t l small w)) (job_is b z t l small w) ∙ parts b z t l small w
+joined_input b z t l small w = ap (λ (j : Option Job). written_of j (s b z t l small w)) (job_is b z t l small w) ∙ parts b z t l small w

@@ -8,10 +8,10 @@ use lib.ListN.{take, drop, length}
 use lib.Seq.{take-append_seam}
 use borrow.Author.Tests.{eq-eqb, ne_eqb}
 use Rattle.intel_hex.specs.Reading as hex
-use Rattle.intel_hex.specs.declared.check.Read.{Read}
+use Rattle.intel_hex.specs.Reading.{Read}
 use Rattle.schedule.specs.Schedule.{Record}
 use Rattle.schedule_text.specs.Reading.{Told, read_of, bytes_of}
-use Rattle.schedule_text.specs.declared.Outcome.{Outcome}
+use Rattle.schedule_text.specs.Reading.{Outcome}
 use Rattle.schedule_text.proofs.Laws.{text_listed, bytes_length}
 use Rattle.rerunning.specs.Rerun.{State, four, image_of, gone_on, told_of}
 

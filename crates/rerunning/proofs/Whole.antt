@@ -24,7 +24,7 @@ use Rattle.schedule_text.specs.Reading as text
 use Rattle.schedule_text.proofs.Laws.{text_listed, bytes_length}
 use Rattle.rerunning.specs.Rerun.{State, many_of, four, fours, state_of, next_of, part, after_of, gone_on, ran_of, image_of, told_of, written_of, job_of, rerun_of}
 use Rattle.rerunning.specs.declared.job.Job.{Job}
-use Rattle.rerunning.specs.declared.job.Job.TheVariants.{Bad, Run}
+use Rattle.std.specs.Prelude.{Option, Some, None}
 use Rattle.rerunning.specs.Laws.{WholeRerun}
 use Rattle.rerunning.proofs.Entries.{entered_few, fours_long}
 use Rattle.rerunning.proofs.Image.{take_bytes, drop_bytes, program_bytes, zeros_bytes}
@@ -109,9 +109,15 @@ module _ (b : ℕ) (z : State) (t l : List ℕ) (many : ℕ) (is38 : length z.co
 part_long : (s : List ℕ) (at size : ℕ) → at + size ≤ length s → length (part s at size) ≡ size
 part_long s at size h = length-take-le size (drop at s) (rw (length-drop at s) (omega arith))
 
-written_short : (j : Job) (s : List ℕ) → Bytes s → Within (length s) j → length (written_of j s) ≤ 655408
-written_short Bad s b w = omega arith
-written_short (Run hex schedule size budget done entered) s b w =
+written_short : (j : Option Job) (s : List ℕ) → Bytes s → Within (length s) j → length (written_of j s) ≤ 655408
+written_short None s b w = omega arith
+written_short (Some j) s b w =
+    let hex = j.hex in
+    let schedule = j.schedule in
+    let size = j.size in
+    let budget = j.budget in
+    let done = j.done in
+    let entered = j.entered in
     let inside = w.inside in
     let size_le = w.size_le in
     let at = 62 + 4 * entered in

@@ -10,13 +10,16 @@ use borrow.Author.Tests.{ltb-false}
 use Rattle.basis.specs.Pick.{pick}
 use Rattle.rerunning.specs.Rerun.{number_in, job_of}
 use Rattle.rerunning.specs.declared.job.Job.{Job}
-use Rattle.rerunning.specs.declared.job.Job.TheVariants.{Bad, Run}
+use Rattle.std.specs.Prelude.{Option, Some, None}
 
--- the job by its numbers
-abbrev pub job : ℕ → ℕ → ℕ → ℕ → ℕ → ℕ → ℕ → Job
+-- a job by its numbers, and that of n bytes
+abbrev pub taken : ℕ → ℕ → ℕ → ℕ → ℕ → ℕ → Option Job
+taken hex schedule size budget done entered = Some (record { hex = hex; schedule = schedule; size = size; budget = budget; done = done; entered = entered })
+
+abbrev pub job : ℕ → ℕ → ℕ → ℕ → ℕ → ℕ → ℕ → Option Job
 job n hex schedule size budget done entered =
-    pick (ltb 1048576 hex || ltb 1048576 schedule || ltb 65536 size || ltb 65536 entered) Bad
-    (pick (ltb n (62 + 4 * entered + size + hex + schedule)) Bad (Run hex schedule size budget done entered))
+    pick (ltb 1048576 hex || ltb 1048576 schedule || ltb 65536 size || ltb 65536 entered) None
+    (pick (ltb n (62 + 4 * entered + size + hex + schedule)) None (taken hex schedule size budget done entered))
 
 pub record Sized (hex schedule size entered n : ℕ) : Type 0 where
   pub hex_le : hex ≤ 1048576
@@ -25,13 +28,13 @@ pub record Sized (hex schedule size entered n : ℕ) : Type 0 where
   pub entered_le : entered ≤ 65536
   pub inside : 62 + 4 * entered + size + hex + schedule ≤ n
 
-abbrev pub Within : ℕ → Job → Type 0
-Within n Bad = Unit {0}
-Within n (Run hex schedule size budget done entered) = Sized hex schedule size entered n
+abbrev pub Within : ℕ → Option Job → Type 0
+Within n None = Unit {0}
+Within n (Some j) = Sized j.hex j.schedule j.size j.entered n
 
 module _ (hex schedule size budget done entered n : ℕ) where
   by_tests : (a b c d e : Bool) → ltb 1048576 hex ≡ a → ltb 1048576 schedule ≡ b → ltb 65536 size ≡ c → ltb 65536 entered ≡ d → ltb n (62 + 4 * entered + size + hex + schedule) ≡ e
-      → Within n (pick (a || b || c || d) Bad (pick e Bad (Run hex schedule size budget done entered)))
+      → Within n (pick (a || b || c || d) None (pick e None (taken hex schedule size budget done entered)))
   by_tests true b c d e f g h i j = tt
   by_tests false true c d e f g h i j = tt
   by_tests false false true d e f g h i j = tt

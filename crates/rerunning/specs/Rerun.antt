@@ -1,13 +1,12 @@
 -- docs/RERUN.md, "The program": what `rerun` writes for its input. The quotes are that page's.
 -- s is the input, n a number, t the text of a HEX file, l the text of a schedule, z the state of a run, b its budget, p a program, r the bytes of a list of records, x what the run gives.
-use Rattle.std.specs.Prelude.{◌||◌, List, [], ◌∷◌, ◌++◌, ℕ, ◌+◌, ◌*◌, ◌-◌, ◌/◌, ◌%◌, eqb, ltb, get_or, take, drop, length, replicate}
+use Rattle.std.specs.Prelude.{◌||◌, Option, Some, None, List, [], ◌∷◌, ◌++◌, ℕ, ◌+◌, ◌*◌, ◌-◌, ◌/◌, ◌%◌, eqb, ltb, get_or, take, drop, length, replicate}
 use Rattle.basis.specs.Pick.{pick}
 use Rattle.intel_hex.specs.Reading as hex
 use Rattle.schedule.specs.Schedule.{ScheduleIn, schedule_from}
 use Rattle.schedule.specs.Laws.{entered_of}
 use Rattle.schedule_text.specs.Reading.{read_of, bytes_of}
 use Rattle.rerunning.specs.declared.job.Job.{Job}
-use Rattle.rerunning.specs.declared.job.Job.TheVariants.{Bad, Run}
 
 -- ---- "A number is four bytes, high byte first"
 abbrev pub number_in : List ℕ → ℕ → ℕ
@@ -22,14 +21,15 @@ fours (n ∷ ns) = four n ++ fours ns
 
 -- ---- the input: at 0 "the bytes of the HEX text, at most 1,048,576", at 4 "the bytes of the schedule's text, at most 1,048,576", at 8 "the bytes of data, at most 65,536", at 12 "the budget", at 16
 -- "how many ticks are done", at 20 "how many records are entered, at most 65,536"; bad where "a number is above its limit, or the input is shorter than its numbers say"
-abbrev pub job_of : List ℕ → Job
+abbrev pub job_of : List ℕ → Option Job
 job_of s =
     let hex = number_in s 0 in
     let schedule = number_in s 4 in
     let size = number_in s 8 in
     let entered = number_in s 20 in
-    pick (ltb 1048576 hex || ltb 1048576 schedule || ltb 65536 size || ltb 65536 entered) Bad
-    (pick (ltb (length s) (62 + 4 * entered + size + hex + schedule)) Bad (Run hex schedule size (number_in s 12) (number_in s 16) entered))
+    pick (ltb 1048576 hex || ltb 1048576 schedule || ltb 65536 size || ltb 65536 entered) None
+    (pick (ltb (length s) (62 + 4 * entered + size + hex + schedule)) None
+    (Some (record { hex = hex; schedule = schedule; size = size; budget = number_in s 12; done = number_in s 16; entered = entered })))
 
 -- so many bytes of the input from a place on
 abbrev pub part : List ℕ → ℕ → ℕ → List ℕ
@@ -78,11 +78,11 @@ told_of b z t l =
     (2 ∷ image.refusal ∷ four image.line)
 
 -- "1": bad input; behind the entries stand "data, the HEX text, the schedule's text"
-abbrev pub written_of : Job → List ℕ → List ℕ
-written_of Bad s = 1 ∷ []
-written_of (Run hex schedule size budget done entered) s =
-    let at = 62 + 4 * entered in
-    told_of budget (record { done = done; core = part s 24 38; entered = part s 62 (4 * entered); bytes = part s at size }) (part s (at + size) hex) (part s (at + size + hex) schedule)
+abbrev pub written_of : Option Job → List ℕ → List ℕ
+written_of None s = 1 ∷ []
+written_of (Some j) s =
+    let at = 62 + 4 * j.entered in
+    told_of j.budget (record { done = j.done; core = part s 24 38; entered = part s 62 (4 * j.entered); bytes = part s at j.size }) (part s (at + j.size) j.hex) (part s (at + j.size + j.hex) j.schedule)
 
 -- all that the program writes for an input
 abbrev pub rerun_of : List ℕ → List ℕ

@@ -1,36 +1,29 @@
-// Numbers put into a buffer, four bytes each, high byte first.
+// Numbers put on a page, four bytes each, high byte first.
 ghost use Rattle.std.specs.Prelude.{◌∷◌};
-ghost use Rattle.page.specs.Page.{page, Puts};
+ghost use Rattle.page.specs.Gains.{Gains};
 ghost use Rattle.rerunning.specs.Rerun.{four, fours};
 
-use page::put_byte;
+use page::Page;
 
-pub fn put_number(out: &mut [u8], at: usize, n: usize) -> usize
-    ensures { Puts (page out.old at) (four n) (page out.new result) }
+pub fn put_number(page: &mut Page<'_>, n: usize)
+    ensures { Gains page.old (four n) page.new }
 {
-    let at = put_byte(out, at, (n / 16777216 % 256) as u8);
-    let at = put_byte(out, at, (n / 65536 % 256) as u8);
-    let at = put_byte(out, at, (n / 256 % 256) as u8);
-    put_byte(out, at, (n % 256) as u8)
+    page.put_text(&n.to_be_bytes()[4..]);
 }
 
-pub fn put_numbers(out: &mut [u8], at: usize, numbers: &[u32]) -> usize
-    ensures { Puts (page out.old at) (fours numbers.now) (page out.new result) }
+pub fn put_numbers(page: &mut Page<'_>, numbers: &[u32])
+    ensures { Gains page.old (fours numbers.now) page.new }
 {
-    let mut end = at;
-    let mut i: usize = 0;
-    while i < numbers.len() {
-        end = put_number(out, end, numbers[i] as usize);
-        i += 1;
+    for n in numbers {
+        put_number(page, *n as usize);
     }
-    end
 }
 
 // A refusal of a text: which text, the number and the line.
-pub fn put_refusal(out: &mut [u8], text: u8, number: u8, line: usize) -> usize
-    ensures { Puts (page out.old 0) (text ∷ number ∷ four line) (page out.new result) }
+pub fn put_refusal(page: &mut Page<'_>, text: u8, number: u8, line: usize)
+    ensures { Gains page.old (text ∷ number ∷ four line) page.new }
 {
-    let at = put_byte(out, 0, text);
-    let at = put_byte(out, at, number);
-    put_number(out, at, line)
+    page.put_byte(text);
+    page.put_byte(number);
+    put_number(page, line);
 }

@@ -13,8 +13,7 @@ use Rattle.instruction.specs.Fields.{with_second}
 use Rattle.instruction.specs.declared.Instruction.{Instruction}
 use Rattle.instruction.proofs.Laws.{second_word_alone}
 use Rattle.instruction.proofs.Tests.{same, same→eq}
-use Rattle.encode.specs.declared.Encoded.{Encoded}
-use Rattle.encode.specs.Encode.{encode_of, bare_of, in_one}
+use Rattle.encode.specs.Encode.{Encoded, encode_of, bare_of, in_one}
 use Rattle.round_trip.specs.RoundTrip.{Decodes, has_none}
 
 abbrev pub Judged : Instruction → Type 0

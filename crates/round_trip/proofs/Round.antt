@@ -15,8 +15,7 @@ use Rattle.instruction.specs.declared.Instruction.{Instruction}
 use Rattle.instruction.specs.declared.Instruction.TheVariants.{UNDEF}
 use Rattle.instruction.proofs.Laws.{second_word_alone}
 use Rattle.instruction.proofs.Tests.{each}
-use Rattle.encode.specs.declared.Encoded.{Encoded}
-use Rattle.encode.specs.Encode.{encode_of}
+use Rattle.encode.specs.Encode.{Encoded, encode_of}
 use Rattle.round_trip.specs.RoundTrip.{words_of, EncodesWhatWasDecoded, NoTwoAlike, Decodes, DecodesWhatWasEncoded, has_none, Outside, RefusesExactly}
 use Rattle.round_trip.proofs.Instructions.{judged}
 use Rattle.round_trip.proofs.Words.{goes_back_lem}

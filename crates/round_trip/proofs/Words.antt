@@ -15,8 +15,7 @@ use Rattle.instruction.specs.Decode.{decode_of, nop_to_add_of, mulsu_to_fmulsu_o
 use Rattle.instruction.specs.declared.Instruction.{Instruction}
 use Rattle.instruction.specs.declared.Instruction.TheVariants.{CALL, JMP, UNDEF}
 use Rattle.instruction.proofs.Tests.{same, same→eq}
-use Rattle.encode.specs.declared.Encoded.{Encoded}
-use Rattle.encode.specs.Encode.{encode_of}
+use Rattle.encode.specs.Encode.{Encoded, encode_of}
 use Rattle.round_trip.specs.RoundTrip.{words_of}
 
 -- ---- two encodings are the same

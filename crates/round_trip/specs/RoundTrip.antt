@@ -5,8 +5,7 @@ use Rattle.instruction.specs.Code.{one_of, two_words}
 use Rattle.instruction.specs.Decode.{decode_of}
 use Rattle.instruction.specs.declared.Instruction.{Instruction}
 use Rattle.instruction.specs.declared.Instruction.TheVariants.{LSL, UNDEF}
-use Rattle.encode.specs.declared.Encoded.{Encoded}
-use Rattle.encode.specs.Encode.{encode_of}
+use Rattle.encode.specs.Encode.{Encoded, encode_of}
 
 -- the words of an instruction that is found at w and s: the second counts where it has one
 abbrev pub words_of : Instruction → ℕ → ℕ → Encoded

@@ -1,5 +1,5 @@
 // What the rule decides, a function each: the Rust's way under source, the chip's own under chip.
-#![tactic(auto)]
+#![tactic(auto, unfolding(crate::specs::Rule::load_waits, crate::specs::Rule::store_waits))]
 
 ghost use Rattle.std.specs.Prelude.{◌≡◌};
 ghost use Rattle.rule.specs.Rule.{old_bit_clear, load_waits, store_waits, bset_inhibits};

@@ -1,6 +1,6 @@
 -- The calls over a snapshot: refused by a check, and passed on.
 -- Assumes nothing.
-use Rattle.std.proofs.Common.{◌≡◌, ℕ, zero, suc, ◌+◌, ◌-◌, ◌*◌, ◌/◌, ◌%◌, ◌<◌, ◌≤◌, Bool, true, false, not, eqb, ltb, List, [], ◌∷◌, length, get_or, set, sym, refl, ap, ◌∙◌, inl, inr, arith, eq-eqb, le-leb, Result, Ok, Err, IsOk}
+use Rattle.std.proofs.Common.{◌≡◌, ℕ, zero, suc, ◌+◌, ◌-◌, ◌*◌, ◌/◌, ◌%◌, ◌<◌, ◌≤◌, Bool, true, false, not, eqb, ltb, List, [], ◌∷◌, length, get_or, set, sym, refl, ap, ◌∙◌, inl, inr, is_some, ◌⊎◌, arith, eq-eqb, le-leb, Result, Ok, Err, IsOk}
 use borrow.Author.Tests.{lt-leb}
 use Rattle.basis.specs.Pick.{pick}
 use Rattle.basis.specs.Bit.{one}
@@ -10,22 +10,22 @@ use Rattle.cores.specs.declared.Core.{Core}
 use Rattle.cores.specs.State.{with_busy}
 use Rattle.tick.specs.Tick.{Tick, number_of, refuses, stops, tick_of}
 use Rattle.tick.specs.Offer.{Offer}
+use Rattle.tick.specs.declared.Answer.{Answer}
 use Rattle.tick.specs.declared.Answer.TheVariants.{Waited, Ran}
 use Rattle.tick.proofs.Steps.{busy_tick}
-use Rattle.invariants.specs.Ticks.{TickNumber}
+use Rattle.invariants.specs.Ticks.{Offered, TickNumber}
 use Rattle.invariants.proofs.Ticks.{ticks_answer_tick_numbers}
 use Rattle.snapshot.specs.declared.Unreadable.{Unreadable}
 use Rattle.snapshot.specs.declared.Unreadable.TheVariants.{Length, Busy, Spare}
 use Rattle.snapshot.specs.Snapshot.{bytes_of, core_of, said_read, refused_read, read_of, write_of}
 use Rattle.snapshot.proofs.RoundTrips.{at_tail, bytes_back, written, writing_undoes_reading}
-use Rattle.run.specs.Run.{Run, spent, ended_number, ended_by, ran, run_of}
-use Rattle.run.specs.Over.{said_by, tick_over, run_over, Advances, tick_in, TicksIn, passed, over_of, run_in, RunsIn, of_check}
-use Rattle.run.specs.declared.over.Last.{Last}
-use Rattle.run.proofs.Ends.{ends_have_their_numbers}
-use Rattle.run.proofs.Unroll.{step}
+use Rattle.run.specs.Run.{Run, spent, ran, run_of}
+use Rattle.run.specs.Over.{said_by, tick_over, TickedOver, Stretches, run_over, tick_in, TicksIn, passed, over_of, run_in, RunsIn, of_check}
+use Rattle.run.specs.declared.Ended.TheVariants.{Budget}
+use Rattle.run.proofs.Unroll.{step, begun, unroll_spent}
 use Rattle.run.proofs.Six.{stored}
 use Rattle.run.proofs.Stretched.{long, brief, said_busy}
-use Rattle.run.proofs.Turns.{said_sound}
+use Rattle.run.proofs.Turns.{said_sound, next_into}
 
 -- core and data of a run of one tick are the tick's
 step_one : (r s : Bool) (t : Tick) → ((step r s t (spent t.core t.bytes)).core ≡ t.core) × ((step r s t (spent t.core t.bytes)).bytes ≡ t.bytes)
@@ -62,25 +62,8 @@ module _ (s p m : List ℕ) (o : Offer) where
         → TicksIn (tick_in s p m o) n s' m'
     tick_passed e f g = rw (eq-eqb (read_of s).refusal 0 h) (record { number = e; snapshot = f; bytes = g })
 
-    -- a run of one tick of a core that does not wait
-    pub tick_advanced : (x : Last) {s' m' : List ℕ} → Advances s p m o 1 x s' m' → (said_by s).busy ≡ 0 → TicksIn (tick_in s p m o) (number_of x.answer) s' m'
-    tick_advanced x w f =
-        let e = one_tick (said_by s) p m o in
-        tick_passed (ap number_of (w.one refl f)) (w.snapshot ∙ ap (λ (k : Core). (write_of k s).bytes) e.0) (w.bytes ∙ e.1)
-
-    pub run_passed : (b : ℕ) (x : Last) {s' m' : List ℕ} → Advances s p m o b x s' m' → RunsIn (run_in s p m o b) (ended_number (ended_by x.answer)) x.ticks s' m'
-    run_passed b x w =
-        rw (eq-eqb (read_of s).refusal 0 h)
-        (record { answer = ap ended_number w.answer ∙ ends_have_their_numbers (run_over b s p m o).answer; count = w.count; snapshot = w.snapshot; bytes = w.bytes })
-
-    -- as the code hands it back
-    pub tick_told : (x : Last) {s' m' : List ℕ} → Advances s p m o 1 x s' m' → (said_by s).busy ≡ 0 → Ok x.answer ≡ passed (read_of s).refusal (tick_over s p m o).answer
-    tick_told x w f = told_as h (w.one refl f)
-
-    pub run_told : (b : ℕ) (x : Last) {s' m' : List ℕ} → Advances s p m o b x s' m' → Ok (record { ended = ended_by x.answer; ticks = x.ticks }) ≡ passed (read_of s).refusal (over_of (run_over b s p m o))
-    run_told b x w = told_as h (rw (w.answer, w.count))
-
-    pub run_none_told : Ok (record { ended = ended_by Ran; ticks = 0 }) ≡ passed (read_of s).refusal (over_of (run_over 0 s p m o))
+    -- a run of no tick, as the code hands it back
+    pub run_none_told : Ok (record { ended = Budget; ticks = 0 }) ≡ passed (read_of s).refusal (over_of (run_over 0 s p m o))
     unfolding ran
     run_none_told = told_as h refl
 
@@ -129,6 +112,46 @@ module _ (s p m : List ℕ) (o : Offer) (h : (read_of s).refusal ≡ 0) (bs : By
       (ap (λ (l : List ℕ). set l 37 (get_or s 37 0 - 32)) (sym back) ∙ one_less ∙ sym (ap (λ x. x.bytes) (written (with_busy k b) s small (long s h)))
       ∙ sym (ap (λ x. (write_of x.core s).bytes) t))
       (sym (ap (λ x. x.bytes) t))
+
+-- ---- no wait: a stretch of at most one tick, and where that did nothing a whole one
+module _ {s p m s' m' : List ℕ} (o : Offer) {on : Bool} {n : ℕ} (h : (read_of s).refusal ≡ 0) (w : get_or s 37 0 < 32) (e : on ≡ is_some o)
+    (c : Stretches s p m on 0 1 n s' m') (bs : Bytes s') where
+  first : ((n ≡ 0) × ((said_by s' ≡ said_by s) × (m' ≡ m))) ⊎ ((0 < n) × ((tick_over s p m o).answer ≡ Ran))
+  first = c.first o (sym e) (said_busy s h ∙ omega (arith, w))
+
+  module _ (l : n ≡ 1) where
+    ran_answer : (tick_over s p m o).answer ≡ Ran
+    ran_answer = elim first [ inl u ↦ absurd (omega (arith, l, u.0)) | inr u ↦ u.1 ]
+
+    spent_one : run_over 1 s p m o ≡ record { answer = 24; count = n; core = said_by s'; bytes = m' }
+    spent_one = begun 1 (said_by s) p m o ∙ c.rest o (sym e) ∙ unroll_spent 1 n (said_by s') p m' o (omega (arith, l))
+
+    pub tick_ran : TicksIn (tick_in s p m o) 18 s' m'
+    tick_ran =
+        let k = one_tick (said_by s) p m o in
+        tick_passed s p m o h (sym (ap number_of ran_answer))
+        (sym (ap (λ w. w.bytes) (writing_undoes_reading s' s bs c.read (long s h))) ∙ ap (λ (k : Core). (write_of k s).bytes) (sym (ap (λ r. r.core) spent_one) ∙ k.0))
+        (sym (ap (λ r. r.bytes) spent_one) ∙ k.1)
+
+    pub tick_ran_told : Ok Ran ≡ passed (read_of s).refusal (tick_over s p m o).answer
+    tick_ran_told = told_as h (sym ran_answer)
+
+  module _ (l : n ≡ 1 → ⊥) (bp : Bytes p) (bm : Bytes m') (f : Offered o) {a : Answer} {s'' m'' : List ℕ} (t : TickedOver s' p m' o a s'' m'') where
+    same : tick_over s' p m' o ≡ tick_over s p m o
+    same =
+        elim first [
+          | inl u ↦ ap (λ (k : Core). tick_of k p m' o) u.1.0 ∙ ap (λ (x : List ℕ). tick_of (said_by s) p x o) u.1.1
+          | inr u ↦ absurd (omega (arith, l, u.0, c.bounded))
+        ]
+
+    pub tick_whole : TicksIn (tick_in s p m o) (number_of a) s'' m''
+    tick_whole =
+        tick_passed s p m o h (ap number_of t.answer ∙ ap (λ x. number_of x.answer) same)
+        (next_into s' p m' o c.read bs bp bm f s (long s h) t.snapshot ∙ ap (λ (x : Tick). (write_of x.core s).bytes) same)
+        (t.bytes ∙ ap (λ x. x.bytes) same)
+
+    pub tick_whole_told : Ok a ≡ passed (read_of s).refusal (tick_over s p m o).answer
+    tick_whole_told = told_as h (t.answer ∙ ap (λ x. x.answer) same)
 
 -- ---- a check's numbers and a run's
 -- a run answers 1 to 5, or 22 to 24

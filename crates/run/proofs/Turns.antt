@@ -1,14 +1,15 @@
 -- One turn of a run over a snapshot: a stretch, then a whole tick.
 -- Assumes nothing.
-use Rattle.std.proofs.Common.{◌≡◌, ℕ, ◌+◌, ◌-◌, ◌<◌, ◌≤◌, ◌⊎◌, Bool, true, false, is_some, Result, Ok, Err, IsOk, Fits, w8, List, length, get_or, take, drop, sym, refl, ap, ◌∙◌, arith, take-append-drop, length-take-le, take_all, subst, inl, inr}
+use Rattle.std.proofs.Common.{◌≡◌, ℕ, ◌+◌, ◌-◌, ◌<◌, Bool, true, false, ◌||◌, eqb, eqb-true, is_some, Result, Ok, Err, IsOk, Fits, w8, List, length, get_or, take, drop, sym, refl, ap, ◌∙◌, arith, take-append-drop, length-take-le, take_all, subst}
 use native.Mathlib.Nat.{sub-zero}
+use Rattle.std.proofs.lemmas.Bool.{eqb-false}
 use Rattle.basis.specs.Bytes.{Bytes}
+use Rattle.basis.proofs.Choice.{clash, test}
 use Rattle.cores.specs.declared.Core.{Core}
 use Rattle.cores.specs.State.{fresh_of, with_regs, with_pc, with_busy, with_inhibit, with_service, with_chip, Sound}
-use Rattle.tick.specs.Tick.{Tick, refuses, stops, tick_of}
+use Rattle.tick.specs.Tick.{Tick, refuses, stops}
 use Rattle.tick.specs.Offer.{Offer}
 use Rattle.tick.specs.declared.Answer.{Answer}
-use Rattle.tick.specs.declared.Answer.TheVariants.{Ran}
 use Rattle.invariants.specs.Ticks.{Offered}
 use Rattle.invariants.proofs.Ticks.{ticks_stay_in_range}
 use Rattle.snapshot.specs.Snapshot.{core_of, said_read, read_of, said_write, write_of}
@@ -18,7 +19,7 @@ use Rattle.snapshot.specs.declared.Unwritable.TheVariants.{Length, Busy}
 use Rattle.snapshot.proofs.RoundTrips.{written, reading_undoes_writing, writing_undoes_reading}
 use Rattle.run.specs.Run.{Run, ended, ended_by, ended_of, after, run_of}
 use Rattle.run.specs.Over.{said_by, tick_over, TickedOver, Stretches, rest_over, run_over, Advances}
-use Rattle.run.specs.declared.over.Last.{Last}
+use Rattle.run.specs.declared.Ended.TheVariants.{Budget}
 use Rattle.run.proofs.Ends.{kept, ended_kept}
 use Rattle.run.proofs.Unroll.{unroll_spent, unroll_refused, unroll_stopped, unroll_on}
 use Rattle.run.proofs.Stretched.{said, long, brief, front_bytes}
@@ -80,131 +81,99 @@ module _ (s p m : List ℕ) (o : Offer) (h : (read_of s).refusal ≡ 0) (bs : By
   pub next_into : {s' : List ℕ} (s₀ : List ℕ) → length s₀ ≡ 38 → s' ≡ (write_of (tick_over s p m o).core s).bytes → s' ≡ (write_of (tick_over s p m o).core s₀).bytes
   next_into s₀ l e = e ∙ into (tick_over s p m o).core s s₀ next_sound (long s h) l
 
--- ---- the ends of a run that begins at s₀ and stands, with n of its b ticks done, at s
-module _ (b n : ℕ) (s₀ p m₀ s m : List ℕ) (o : Offer) (l : length s₀ ≡ 38) (w : run_over b s₀ p m₀ o ≡ rest_over b n s p m o) (h : (read_of s).refusal ≡ 0) (bs : Bytes s) where
-  abbrev t : Tick
-  t = tick_over s p m o
-
-  -- of one tick: the run stands where it began
-  abbrev First : Type 0
-  First = b ≡ 1 → (said_by s₀).busy ≡ 0 → (said_by s ≡ said_by s₀) × (m ≡ m₀)
-
-  -- the budget is spent in a stretch
-  pub ends_spent : (a : Last) → a.answer ≡ Ran → a.ticks ≡ n → b ≤ n → (b ≡ 1 → (said_by s₀).busy ≡ 0 → (tick_over s₀ p m₀ o).answer ≡ Ran) → Advances s₀ p m₀ o b a s m
-  ends_spent a e c g q =
-      let r = w ∙ unroll_spent b n (said_by s) p m o g in
-      record {
-        answer = rw (e, r);
-        count = c ∙ sym (ap (λ x. x.count) r);
-        snapshot = sym (ap (λ x. x.bytes) (writing_undoes_reading s s₀ bs h l)) ∙ sym (ap (λ x. (write_of x.core s₀).bytes) r);
-        bytes = sym (ap (λ x. x.bytes) r);
-        one = λ x y. e ∙ sym (q x y);
-      }
-
-  module _ (bp : Bytes p) (bm : Bytes m) (f : Offered o) {s' m' : List ℕ} (i : s' ≡ (write_of t.core s).bytes) (j : m' ≡ t.bytes) where
-    -- by a tick
-    ends_by : (a : Last) → a.answer ≡ t.answer → First → (r : Run) → run_over b s₀ p m₀ o ≡ r → r.core ≡ t.core → r.bytes ≡ t.bytes → kept t.answer ≡ r.answer → a.ticks ≡ r.count → Advances s₀ p m₀ o b a s' m'
-    ends_by a e q r z x y k c =
-        record {
-          answer = ap ended_by e ∙ ended_kept (said_by s) p m o ∙ ap ended_of (k ∙ sym (ap (λ x. x.answer) z));
-          count = c ∙ sym (ap (λ x. x.count) z);
-          snapshot = next_into s p m o h bs bp bm f s₀ l i ∙ ap (λ (k' : Core). (write_of k' s₀).bytes) (sym x) ∙ sym (ap (λ x. (write_of x.core s₀).bytes) z);
-          bytes = j ∙ sym y ∙ sym (ap (λ x. x.bytes) z);
-          one = λ u v. e ∙ (ap (λ (k' : Core). (tick_of k' p m o).answer) (q u v).0 ∙ ap (λ (x : List ℕ). (tick_of (said_by s₀) p x o).answer) (q u v).1);
-        }
-
-    module _ (g : n < b) where
-      pub ends_refused : (a : Last) → a.answer ≡ t.answer → First → refuses t.answer ≡ true → a.ticks ≡ n → Advances s₀ p m₀ o b a s' m'
-      ends_refused a e v z c = ends_by a e v (ended n t) (w ∙ unroll_refused b n (said_by s) p m o g z) refl refl (rw z) c
-
-      pub ends_stopped : (a : Last) → a.answer ≡ t.answer → First → refuses t.answer ≡ false → stops t.answer ≡ true → a.ticks ≡ n + 1 → Advances s₀ p m₀ o b a s' m'
-      ends_stopped a e v z y c = ends_by a e v (ended (n + 1) t) (w ∙ unroll_stopped b n (said_by s) p m o g z y) refl refl (rw (z, y)) c
-
-      pub ends_last : (a : Last) → a.answer ≡ t.answer → First → refuses t.answer ≡ false → stops t.answer ≡ false → n + 1 ≡ b → a.ticks ≡ b → Advances s₀ p m₀ o b a s' m'
-      ends_last a e v z y q c =
-          ends_by a e v (record { answer = 24; count = n + 1; core = t.core; bytes = t.bytes })
-          (w ∙ unroll_on b n (said_by s) p m o g z y ∙ unroll_spent b (n + 1) t.core p t.bytes o (omega arith)) refl refl (rw (z, y)) (c ∙ sym q)
-
-      -- and the rest goes on
-      pub goes_on : refuses t.answer ≡ false → stops t.answer ≡ false → run_over b s₀ p m₀ o ≡ rest_over b (n + 1) s' p m' o
-      goes_on z y =
-          w ∙ unroll_on b n (said_by s) p m o g z y
-          ∙ ap (λ (k : Core). after (n + 1) (run_of (b - (n + 1)) k p t.bytes o)) (sym (ap (λ r. r.core) (next_read s p m o h bs bp bm f i)))
-          ∙ ap (λ (x : List ℕ). rest_over b (n + 1) s' p x o) (sym j)
-
--- ---- a turn
+-- ---- a turn of the loop
 -- the run of b ticks from s₀ stands, with n of them done, at s
 pub record Standing (b n : ℕ) (s₀ p m₀ s m : List ℕ) (o : Offer) : Type 0 where
   pub under : n < b
   pub read : (read_of s).refusal ≡ 0
   pub run : run_over b s₀ p m₀ o ≡ rest_over b n s p m o
-  pub began : n ≡ 0 → (said_by s ≡ said_by s₀) × (m ≡ m₀)
+
+neither : (a b : Bool) → (a || b) ≡ false → (a ≡ false) × (b ≡ false)
+neither true b h = clash h
+neither false b h = (refl, h)
 
 -- the part of a program from its first byte
 all : (p : List ℕ) → take (length p - 0) p ≡ p
 all p = rw sub-zero (take_all (length p) p (omega arith))
 
 -- a stretch from s₁ to s
-module _ {b at done : ℕ} {s₀ p m₀ s₁ m₁ s m : List ℕ} {o : Offer} {on : Bool} (h : (read_of s₀).refusal ≡ 0) (i : Standing b at s₀ p m₀ s₁ m₁ o)
-    (e : on ≡ is_some o) (c : Stretches s₁ (take (length p - 0) p) m₁ on at b done s m) (bs : Bytes s) where
-  went : Stretches s₁ p m₁ on at b done s m
-  went = subst (λ (x : List ℕ). Stretches s₁ x m₁ on at b done s m) (all p) c
+module _ {b at n : ℕ} {s₀ p m₀ s₁ m₁ s m : List ℕ} {o : Offer} {on : Bool} (h₀ : (read_of s₀).refusal ≡ 0) (i : Standing b at s₀ p m₀ s₁ m₁ o)
+    (e : on ≡ is_some o) (c : Stretches s₁ (take (length p - 0) p) m₁ on at b n s m) (bs : Bytes s) where
+  went : Stretches s₁ p m₁ on at b n s m
+  went = subst (λ (x : List ℕ). Stretches s₁ x m₁ on at b n s m) (all p) c
 
-  stands : run_over b s₀ p m₀ o ≡ rest_over b done s p m o
+  h : (read_of s).refusal ≡ 0
+  h = went.read
+
+  stands : run_over b s₀ p m₀ o ≡ rest_over b n s p m o
   stands = i.run ∙ went.rest o (sym e)
 
-  -- a run of one tick: the stretch did nothing, or that tick
-  first : b ≡ 1 → (said_by s₀).busy ≡ 0 → ((done ≡ 0) × ((said_by s ≡ said_by s₀) × (m ≡ m₀))) ⊎ ((0 < done) × ((tick_over s₀ p m₀ o).answer ≡ Ran))
-  first z f =
-      let none : at ≡ 0 = omega (arith, i.under, z) in
-      let began = i.began none in
-      elim (went.first o (sym e) (ap (λ (k : Core). k.busy) began.0 ∙ f)) [
-        | inl u ↦ inl (u.0 ∙ none, (u.1.0 ∙ began.0, u.1.1 ∙ began.1))
-        | inr u ↦ inr (omega (arith, u.0), ap (λ (k : Core). (tick_of k p m₀ o).answer) (sym began.0) ∙ ap (λ (x : List ℕ). (tick_of (said_by s₁) p x o).answer) (sym began.1) ∙ u.1)
-      ]
-
-  first_short : done < b → b ≡ 1 → (said_by s₀).busy ≡ 0 → (said_by s ≡ said_by s₀) × (m ≡ m₀)
-  first_short n z f = elim (first z f) [ inl u ↦ u.1 | inr u ↦ absurd (omega (arith, n, z, u.0)) ]
-
-  pub turn_spent : done ≡ b → Advances s₀ p m₀ o b (record { answer = Ran; ticks = b }) s m
-  turn_spent n =
-      ends_spent b done s₀ p m₀ s m o (long s₀ h) stands went.read bs (record { answer = Ran; ticks = b }) refl (sym n) (omega (arith, n))
-      λ z f. elim (first z f) [ inl u ↦ absurd (omega (arith, n, z, u.0)) | inr u ↦ u.1 ]
+  -- the budget is spent
+  pub turn_spent : n ≡ b → Advances s₀ p m₀ o b (record { ended = Budget; ticks = b }) s m
+  turn_spent l =
+      let r = stands ∙ unroll_spent b n (said_by s) p m o (omega (arith, l)) in
+      record {
+        answer = sym (ap (λ x. ended_of x.answer) r);
+        count = sym l ∙ sym (ap (λ x. x.count) r);
+        snapshot = sym (ap (λ x. x.bytes) (writing_undoes_reading s s₀ bs h (long s₀ h₀))) ∙ sym (ap (λ x. (write_of x.core s₀).bytes) r);
+        bytes = sym (ap (λ x. x.bytes) r);
+      }
 
   -- and a whole tick from s to s'
-  module _ (bp : Bytes p) (bm : Bytes m) (f : Offered o) {a : Answer} {s' m' : List ℕ} (d : TickedOver s (take (length p - 0) p) m o a s' m') (n : done ≡ b → ⊥) where
+  module _ (bp : Bytes p) (bm : Bytes m) (f : Offered o) {a : Answer} {s' m' : List ℕ} (d : TickedOver s (take (length p - 0) p) m o a s' m') (l : n ≡ b → ⊥) where
+    abbrev t : Tick
+    t = tick_over s p m o
+
     ticked : TickedOver s p m o a s' m'
     ticked = subst (λ (x : List ℕ). TickedOver s x m o a s' m') (all p) d
 
-    near : done < b
-    near = omega (arith, went.bounded, n)
+    near : n < b
+    near = omega (arith, went.bounded, l)
 
     -- a test of the tick's answer, by that of the code's
-    by : (test : Answer → Bool) {t : Bool} → test a ≡ t → test (tick_over s p m o).answer ≡ t
+    by : (test : Answer → Bool) {y : Bool} → test a ≡ y → test t.answer ≡ y
     by test z = ap test (sym ticked.answer) ∙ z
 
-    pub turn_refused : refuses a ≡ true → Advances s₀ p m₀ o b (record { answer = a; ticks = done }) s' m'
-    turn_refused x =
-        ends_refused b done s₀ p m₀ s m o (long s₀ h) stands went.read bs bp bm f ticked.snapshot ticked.bytes near (record { answer = a; ticks = done }) ticked.answer
-        (first_short near) (by refuses x) refl
+    -- the run ends by that tick
+    ends : (r : Run) → run_over b s₀ p m₀ o ≡ r → r.core ≡ t.core → r.bytes ≡ t.bytes → kept t.answer ≡ r.answer
+        → Advances s₀ p m₀ o b (record { ended = ended_by a; ticks = r.count }) s' m'
+    ends r z x y k =
+        record {
+          answer = ap ended_by ticked.answer ∙ ended_kept (said_by s) p m o ∙ ap ended_of (k ∙ sym (ap (λ x. x.answer) z));
+          count = sym (ap (λ x. x.count) z);
+          snapshot = next_into s p m o h bs bp bm f s₀ (long s₀ h₀) ticked.snapshot ∙ ap (λ (k' : Core). (write_of k' s₀).bytes) (sym x) ∙ sym (ap (λ x. (write_of x.core s₀).bytes) z);
+          bytes = ticked.bytes ∙ sym y ∙ sym (ap (λ x. x.bytes) z);
+        }
+
+    pub turn_refused : refuses a ≡ true → Advances s₀ p m₀ o b (record { ended = ended_by a; ticks = n }) s' m'
+    turn_refused x = let z = by refuses x in ends (ended n t) (stands ∙ unroll_refused b n (said_by s) p m o near z) refl refl (rw z)
 
     module _ (x : refuses a ≡ false) where
-      pub turn_stopped : stops a ≡ true → Advances s₀ p m₀ o b (record { answer = a; ticks = done + 1 }) s' m'
-      turn_stopped y =
-          ends_stopped b done s₀ p m₀ s m o (long s₀ h) stands went.read bs bp bm f ticked.snapshot ticked.bytes near (record { answer = a; ticks = done + 1 }) ticked.answer
-          (first_short near) (by refuses x) (by stops y) refl
+      stopped : stops a ≡ true → Advances s₀ p m₀ o b (record { ended = ended_by a; ticks = n + 1 }) s' m'
+      stopped y =
+          let z = by refuses x in
+          let v = by stops y in
+          ends (ended (n + 1) t) (stands ∙ unroll_stopped b n (said_by s) p m o near z v) refl refl (rw (z, v))
 
-      module _ (y : stops a ≡ false) where
-        pub turn_last : done + 1 ≡ b → Advances s₀ p m₀ o b (record { answer = a; ticks = b }) s' m'
-        turn_last l =
-            ends_last b done s₀ p m₀ s m o (long s₀ h) stands went.read bs bp bm f ticked.snapshot ticked.bytes near (record { answer = a; ticks = b }) ticked.answer
-            (first_short near) (by refuses x) (by stops y) l refl
+      last : stops a ≡ false → n + 1 ≡ b → Advances s₀ p m₀ o b (record { ended = ended_by a; ticks = n + 1 }) s' m'
+      last y q =
+          let z = by refuses x in
+          let v = by stops y in
+          ends (record { answer = 24; count = n + 1; core = t.core; bytes = t.bytes })
+          (stands ∙ unroll_on b n (said_by s) p m o near z v ∙ unroll_spent b (n + 1) t.core p t.bytes o (omega (arith, q))) refl refl (rw (z, v))
 
-        pub turn_on : (done + 1 ≡ b → ⊥) → Standing b (done + 1) s₀ p m₀ s' m' o
-        turn_on l =
-            record {
-              under = omega (arith, near, l);
-              read = ap (λ r. r.refusal) (next_read s p m o went.read bs bp bm f ticked.snapshot);
-              run = goes_on b done s₀ p m₀ s m o (long s₀ h) stands went.read bs bp bm f ticked.snapshot ticked.bytes near (by refuses x) (by stops y);
-              began = λ z. absurd (omega (arith, z));
-            }
+      pub turn_ended : (stops a || eqb (n + 1) b) ≡ true → Advances s₀ p m₀ o b (record { ended = ended_by a; ticks = n + 1 }) s' m'
+      turn_ended y = test (stops a) stopped (λ v. last v (eqb-true (n + 1) b (ap (λ w. w || eqb (n + 1) b) (sym v) ∙ y)))
+
+      pub turn_on : (stops a || eqb (n + 1) b) ≡ false → Standing b (n + 1) s₀ p m₀ s' m' o
+      turn_on y =
+          let (v, q) = neither (stops a) (eqb (n + 1) b) y in
+          let next = next_read s p m o h bs bp bm f ticked.snapshot in
+          record {
+            under = omega (arith, near, eqb-false (n + 1) b q);
+            read = ap (λ r. r.refusal) next;
+            run =
+                stands ∙ unroll_on b n (said_by s) p m o near (by refuses x) (by stops v)
+                ∙ ap (λ (k : Core). after (n + 1) (run_of (b - (n + 1)) k p t.bytes o)) (sym (ap (λ r. r.core) next))
+                ∙ ap (λ (x : List ℕ). rest_over b (n + 1) s' p x o) (sym ticked.bytes);
+          }

@@ -9,9 +9,8 @@ use Rattle.tick.specs.declared.Answer.TheVariants.{Ran}
 use Rattle.snapshot.specs.Snapshot.{read_of, write_of, unreadable_number}
 use Rattle.snapshot.specs.declared.Unreadable.{Unreadable}
 use Rattle.snapshot.specs.declared.Unreadable.TheVariants.{Length, Busy, Spare}
-use Rattle.run.specs.Run.{Run, after, run_of, ended_number, ended_of, ended_by}
+use Rattle.run.specs.Run.{Run, after, run_of, ended_number, ended_of}
 use Rattle.run.specs.Lent.{offers}
-use Rattle.run.specs.declared.over.Last.{Last}
 use Rattle.run.specs.declared.over.Over.{Over}
 
 -- the core that the bytes say, its tick and its run
@@ -42,13 +41,12 @@ pub record Stretches (s p m : List ℕ) (on : Bool) (at b done : ℕ) (s' m' : L
 abbrev pub run_over : ℕ → List ℕ → List ℕ → List ℕ → Offer → Run
 run_over b s p m o = run_of b (said_by s) p m o
 
--- a run, with the answer of its last tick
-pub record Advances (s p m : List ℕ) (o : Offer) (b : ℕ) (a : Last) (s' m' : List ℕ) : Type 0 where
-  pub answer : ended_by a.answer ≡ ended_of (run_over b s p m o).answer
+-- a run
+pub record Advances (s p m : List ℕ) (o : Offer) (b : ℕ) (a : Over) (s' m' : List ℕ) : Type 0 where
+  pub answer : a.ended ≡ ended_of (run_over b s p m o).answer
   pub count : a.ticks ≡ (run_over b s p m o).count
   pub snapshot : s' ≡ (write_of (run_over b s p m o).core s).bytes
   pub bytes : m' ≡ (run_over b s p m o).bytes
-  pub one : b ≡ 1 → (said_by s).busy ≡ 0 → a.answer ≡ (tick_over s p m o).answer
 
 -- ---- the calls: checks 7, 8 and 9 first, and "a refused call changes no core, no byte of data"
 -- the check of a number, and x where none refuses
@@ -71,9 +69,9 @@ tick_in s p m o =
     (record { number = (read_of s).refusal; snapshot = s; bytes = m })
 
 -- the number of what the code hands back
-abbrev pub number_in : Result Answer Unreadable → ℕ
-number_in (Ok a) = number_of a
-number_in (Err e) = unreadable_number e
+abbrev pub said_tick : Result Answer Unreadable → ℕ
+said_tick (Ok a) = number_of a
+said_tick (Err e) = unreadable_number e
 
 pub record TicksIn (t : TickIn) (n : ℕ) (s m : List ℕ) : Type 0 where
   pub number : n ≡ t.number
@@ -98,13 +96,13 @@ abbrev pub over_of : Run → Over
 over_of r = record { ended = ended_of r.answer; ticks = r.count }
 
 -- and the number and the count of that, or of a check
-abbrev pub answer_in : Result Over Unreadable → ℕ
-answer_in (Ok a) = ended_number a.ended
-answer_in (Err e) = unreadable_number e
+abbrev pub said_run : Result Over Unreadable → ℕ
+said_run (Ok a) = ended_number a.ended
+said_run (Err e) = unreadable_number e
 
-abbrev pub count_in : Result Over Unreadable → ℕ
-count_in (Ok a) = a.ticks
-count_in (Err e) = 0
+abbrev pub said_count : Result Over Unreadable → ℕ
+said_count (Ok a) = a.ticks
+said_count (Err e) = 0
 
 pub record RunsIn (r : RunIn) (a n : ℕ) (s m : List ℕ) : Type 0 where
   pub answer : a ≡ r.answer

@@ -2,7 +2,7 @@
 ghost use Rattle.std.specs.Prelude.{◌≡◌, ◌<◌};
 ghost use Rattle.tick.specs.Tick.{number_of};
 ghost use Rattle.snapshot.specs.Snapshot.{read_of};
-ghost use Rattle.run.specs.Over.{tick_over, TickedOver, Stretches, Advances, passed, number_in, tick_in, TicksIn, over_of, answer_in, count_in, run_over, run_in, RunsIn};
+ghost use Rattle.run.specs.Over.{tick_over, TickedOver, Stretches, Advances, passed, said_tick, tick_in, TicksIn, over_of, said_run, said_count, run_over, run_in, RunsIn};
 
 use crate::Ended;
 use crate::go::go;
@@ -15,13 +15,6 @@ use tick::Answer;
 pub struct Over {
     pub ended: Ended,
     pub ticks: u32,
-}
-
-// The answer of a run's last tick, and the ticks done.
-#[derive(Clone, Copy)]
-struct Last {
-    answer: Answer,
-    ticks: u32,
 }
 
 // A whole tick, by the two operations, of which `ready` and `effect` are the short form.
@@ -83,7 +76,7 @@ fn advance(
     data: &mut [u8],
     offer: Option<u16>,
     budget: u32,
-) -> Last
+) -> Over
     requires { ((read_of snapshot.old).refusal ≡ 0) × (0 < budget) }
     ensures { Advances snapshot.old program0.now «data».old offer budget result snapshot.new «data».new }
 {
@@ -94,29 +87,23 @@ fn advance(
     loop {
         let done = stretch(snapshot, program, data, on, at, budget);
         if done == budget {
-            return Last {
-                answer: Answer::Ran,
+            return Over {
+                ended: Ended::Budget,
                 ticks: budget,
             };
         }
         let answer = whole(snapshot, program, data, offer);
-        let next = done + 1;
         if tick::refuses(answer) {
-            return Last {
-                answer,
+            return Over {
+                ended: answer.into(),
                 ticks: done,
             };
         }
-        if tick::stops(answer) {
-            return Last {
-                answer,
+        let next = done + 1;
+        if tick::stops(answer) | (next == budget) {
+            return Over {
+                ended: answer.into(),
                 ticks: next,
-            };
-        }
-        if next == budget {
-            return Last {
-                answer,
-                ticks: budget,
             };
         }
         at = next;
@@ -148,7 +135,7 @@ pub fn tick_in(
     offer: Option<u16>,
 ) -> Result<Answer, Unreadable>
     ensures handed_back { result ≡ passed (read_of snapshot.old).refusal (tick_over snapshot.old program.now «data».old offer).answer }
-    ensures left { TicksIn (tick_in snapshot.old program.now «data».old offer) (number_in result) snapshot.new «data».new }
+    ensures left { TicksIn (tick_in snapshot.old program.now «data».old offer) (said_tick result) snapshot.new «data».new }
 {
     check(snapshot)?;
     let last = snapshot[37];
@@ -156,7 +143,10 @@ pub fn tick_in(
         snapshot[37] = last - 32;
         return Ok(Answer::Waited);
     }
-    Ok(advance(snapshot, program, data, offer, 1).answer)
+    if stretch(snapshot, program, data, offer.is_some(), 0, 1) == 1 {
+        return Ok(Answer::Ran);
+    }
+    Ok(whole(snapshot, program, data, offer))
 }
 
 // A run. A refused call changes no byte.
@@ -168,7 +158,7 @@ pub fn run_in(
     budget: u32,
 ) -> Result<Over, Unreadable>
     ensures handed_back { result ≡ passed (read_of snapshot.old).refusal (over_of (run_over budget snapshot.old program.now «data».old offer)) }
-    ensures left { RunsIn (run_in snapshot.old program.now «data».old offer budget) (answer_in result) (count_in result) snapshot.new «data».new }
+    ensures left { RunsIn (run_in snapshot.old program.now «data».old offer budget) (said_run result) (said_count result) snapshot.new «data».new }
 {
     check(snapshot)?;
     if budget == 0 {
@@ -177,9 +167,5 @@ pub fn run_in(
             ticks: 0,
         });
     }
-    let last = advance(snapshot, program, data, offer, budget);
-    Ok(Over {
-        ended: last.answer.into(),
-        ticks: last.ticks,
-    })
+    Ok(advance(snapshot, program, data, offer, budget))
 }

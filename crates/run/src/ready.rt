@@ -36,7 +36,7 @@ fn ready(form: u8, opcode: u16, regs: &[u8], pc: u16, sp: u16, program: &[u8], d
     ensures { Readies form opcode regs.now pc sp program.now «data».now result }
 {
     match form {
-        // Change of Flow Instructions
+        // Change of Flow Instructions. An arm an instruction: with an or-pattern its proof, a line an arm, would have to tell the alternatives apart again.
         CALL => pushes(sp, data),
         ICALL => pushes(sp, data),
         RCALL => pushes(sp, data),
@@ -75,7 +75,7 @@ fn ready(form: u8, opcode: u16, regs: &[u8], pc: u16, sp: u16, program: &[u8], d
             memory::read_word(regs, pointer::Z as usize) as usize,
         ),
         OUT => cores::in_data_space(A6(opcode) as usize, data),
-        POP => plain(std::num::wrapping_add_u16(sp, 1) as usize, data),
+        POP => plain(sp.wrapping_add(1) as usize, data),
         PUSH => plain(sp as usize, data),
         STX => plain(effects::pointed(regs, pointer::X, false) as usize, data),
         STXdec => plain(effects::pointed(regs, pointer::X, true) as usize, data),
@@ -97,10 +97,7 @@ fn ready(form: u8, opcode: u16, regs: &[u8], pc: u16, sp: u16, program: &[u8], d
         CBI => memory::has(data, A5(opcode) as usize),
         SBI => memory::has(data, A5(opcode) as usize),
         // MCU Control Instructions
-        BREAK => false,
-        SLEEP => false,
-        WDR => false,
-        UNDEF => false,
+        BREAK | SLEEP | WDR | UNDEF => false,
         _ => true,
     }
 }

@@ -9,15 +9,16 @@ pub(crate) fn word_at(snapshot: &[u8], at: usize) -> u16
     requires { at + 1 < length snapshot.now }
     ensures { result ≡ word_at snapshot.now at }
 {
-    snapshot[at] as u16 * 256 + snapshot[at + 1] as u16
+    u16::from_be_bytes([snapshot[at], snapshot[at + 1]])
 }
 
 fn put_word(snapshot: &mut [u8], at: usize, value: u16)
     requires { at + 1 < length snapshot.old }
     ensures { snapshot.new ≡ word_put snapshot.old at value }
 {
-    snapshot[at] = (value / 256) as u8;
-    snapshot[at + 1] = (value % 256) as u8;
+    let [high, low] = value.to_be_bytes();
+    snapshot[at] = high;
+    snapshot[at + 1] = low;
 }
 
 fn put_word_if(snapshot: &mut [u8], on: bool, at: usize, value: u16)

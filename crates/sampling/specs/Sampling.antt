@@ -1,7 +1,7 @@
 -- 02, W4: "A sampling routine that relies on the instruction after SEI being safe fails in the rerun. Under the chip rule BSET 7 sets inhibit as RETI does, so one
 -- instruction runs before an interrupt."
 -- k is a core, p a program, m the bytes of data, o an offer, n the number of an answer in 01's table; chip is the rule.
-use Rattle.std.specs.Prelude.{◌≡◌, ◌⊎◌, Bool, true, false, List, [], ◌∷◌, ℕ, ◌+◌, ◌≤◌, ◌<◌, get_or, replicate}
+use Rattle.std.specs.Prelude.{◌≡◌, ◌⊎◌, Bool, true, false, List, [], ◌∷◌, ℕ, ◌+◌, ◌≤◌, ◌<◌, get_or, replicate, Some, None}
 use Rattle.basis.specs.Bit.{put}
 use Rattle.instruction.specs.Decode.{decode_of}
 use Rattle.instruction.specs.declared.Instruction.TheVariants.{BSET}
@@ -10,7 +10,6 @@ use Rattle.cores.specs.declared.Core.{Core}
 use Rattle.cores.specs.State.{reg, flag, fresh_of, with_reg, with_sreg, with_pc, with_inhibit, with_chip}
 use Rattle.cores.specs.Flow.{op_at}
 use Rattle.tick.specs.Offer.{Offer}
-use Rattle.std.specs.Prelude.{Some, None}
 use Rattle.tick.specs.declared.Answer.TheVariants.{Ran}
 use Rattle.tick.specs.Tick.{gives, number_of, tick_of}
 use Rattle.run.specs.Run.{after_ticks, tick_after}

@@ -18,7 +18,7 @@ use Rattle.snapshot.specs.Snapshot.{read_of}
 use Rattle.run.specs.declared.Ended.{Ended}
 use Rattle.run.specs.declared.Ended.TheVariants as end
 use Rattle.run.specs.Run.{ended, ended_number, ended_of, ended_by}
-use Rattle.run.specs.Over.{said_by, tick_over, passed, number_in, tick_in, TicksIn}
+use Rattle.run.specs.Over.{said_by, tick_over, passed, said_tick, tick_in, TicksIn}
 use Rattle.run.proofs.Calls.{passed_is}
 use Rattle.run.proofs.Turns.{next_read}
 use Rattle.schedule.specs.Schedule.{Record, offered, Scheduled, stopped, noted, scheduled}
@@ -57,7 +57,7 @@ pub record Turn : Type 0 where
   pub word : vector < 65536
   pub is : handed ≡ Ok a
   pub answer : handed ≡ passed (read_of s).refusal (tick_over s p m (Some vector)).answer
-  pub ticks : TicksIn (tick_in s p m (Some vector)) (number_in handed) s' m'
+  pub ticks : TicksIn (tick_in s p m (Some vector)) (said_tick handed) s' m'
 
 module _ (T : Turn) where
   open T use {b, done, vector, s, p, m, s', m', handed, a, near, read, snapshot_bytes, program_bytes, data_bytes, word, is, answer, ticks}
@@ -156,7 +156,7 @@ plain_refusal j h = rw (ne_eqb j 24 (λ z. omega arith), ne_eqb j 22 (λ z. omeg
 
 module _ {s₀ p m₀ : List ℕ} {vector from b : ℕ} {s m : List ℕ} {done : ℕ} (z : Stands s₀ p m₀ vector from b s m done) (low : from ≤ done) (near : done < b) (word : vector < 65536) (bp : Bytes p)
     {r : Result Answer Unreadable} {a : Answer} {s' m' : List ℕ} (is : r ≡ Ok a) (answer : r ≡ passed (read_of s).refusal (tick_over s p m (Some vector)).answer)
-    (ticks : TicksIn (tick_in s p m (Some vector)) (number_in r) s' m') where
+    (ticks : TicksIn (tick_in s p m (Some vector)) (said_tick r) s' m') where
   abbrev T : Turn
   T =
       record {

@@ -14,8 +14,8 @@ use Rattle.basis.specs.Bytes.{Bytes}
 use Rattle.basis.proofs.Choice.{cases}
 use Rattle.hex_line.specs.Line.{lines_of}
 use Rattle.schedule.specs.Schedule.{Record, record_at, records_from, records_of, rising}
-use Rattle.schedule_text.specs.declared.line.Said.{Said}
-use Rattle.schedule_text.specs.declared.line.Said.TheVariants.{Nothing, Wrong, Firing}
+use Rattle.schedule_text.specs.Reading.{Said}
+use Rattle.schedule_text.specs.Reading.{Nothing, Wrong, Firing}
 use Rattle.schedule_text.specs.Reading.{line_of, fault_of, Told, told, behind, read_from, read_of, five_of, bytes_of}
 use Rattle.schedule_text.specs.Laws.{TextListed}
 use Rattle.schedule_text.proofs.Turns.{right}

@@ -1,5 +1,5 @@
 -- Laws that the proofs of the code cite, and the promises of specs/.
-pub mod Characters
+pub mod Digits
 pub mod Forms
 pub mod Turns
 pub mod Laws

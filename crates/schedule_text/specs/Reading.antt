@@ -5,10 +5,27 @@ use Rattle.std.specs.Prelude.{Bool, true, false, ◌&&◌, ◌||◌, List, [], �
 use Rattle.basis.specs.Pick.{pick}
 use Rattle.hex_line.specs.Line.{lines_of}
 use Rattle.schedule.specs.Schedule.{Record}
-use Rattle.schedule_text.specs.declared.line.Said.{Said}
-use Rattle.schedule_text.specs.declared.line.Said.TheVariants.{Nothing, Wrong, Firing}
-use Rattle.schedule_text.specs.declared.number.Number.{Number}
-use Rattle.schedule_text.specs.declared.Outcome.{Outcome}
+use Rattle.std.specs.Prelude.{Result, Ok, Err}
+use Rattle.schedule_text.specs.declared.Fault.{Fault}
+use Rattle.schedule_text.specs.declared.Fault.TheVariants.{Form, Tick, Order, Vector, Room}
+use Rattle.schedule_text.specs.declared.Refused.{Refused}
+
+-- what a line says
+pub data Said : Type 0 where
+  Nothing : Said
+  Wrong : Said
+  Firing : ℕ → ℕ → Said
+
+-- a number: what it says, and how many characters it takes; 0 where there is none
+pub record Number : Type 0 where
+  pub value : ℕ
+  pub length : ℕ
+
+-- what reading answers: a fault and the number of its line, both 0 where there is none, and how many records were read before it
+pub record Outcome : Type 0 where
+  pub fault : ℕ
+  pub line : ℕ
+  pub records : ℕ
 
 -- ---- "two numbers, decimal or as 0x10, of one to eight digits"
 -- what a digit is worth, in either case; 99 of what is none
@@ -106,3 +123,19 @@ outcome_of t size = let x = read_of t (size / 5) in record { fault = x.fault; li
 
 abbrev pub list_of : List ℕ → List ℕ → List ℕ
 list_of t e = let ds = (read_of t (length e / 5)).records in bytes_of ds ++ drop (5 * length ds) e
+
+-- ---- the code's faults: "1 no `TICK VECTOR`, 2 a tick that is 0 or above 16,777,215, 3 a tick not above the one before, 4 a vector above 65,535, 5 more than 65,536 records"; and what the code answers
+abbrev pub fault_number : Fault → ℕ
+fault_number Form = 1
+fault_number Tick = 2
+fault_number Order = 3
+fault_number Vector = 4
+fault_number Room = 5
+
+abbrev pub fault_said : Result (Unit {0}) Fault → ℕ
+fault_said (Ok done) = 0
+fault_said (Err fault) = fault_number fault
+
+abbrev pub outcome_said : Result ℕ Refused → Outcome
+outcome_said (Ok records) = record { fault = 0; line = 0; records = records }
+outcome_said (Err x) = record { fault = fault_number x.fault; line = x.line; records = x.records }

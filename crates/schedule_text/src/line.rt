@@ -1,59 +1,59 @@
 // A line by its form: blanks, a tick, blanks, a vector, blanks, a remark.
-ghost use Rattle.std.specs.Prelude.{◌≡◌, ◌+◌, drop};
-ghost use Rattle.schedule_text.specs.Reading.{blanks, is_over, line_of};
+ghost use Rattle.std.specs.Prelude.{◌≡◌, drop};
+ghost use Rattle.schedule_text.specs.Reading.{blanks, is_over, firing_of, line_of};
+ghost use Rattle.schedule_text.specs.Judged.{firing_said, line_said};
 
-use crate::number::number_at;
+use crate::Fault;
+use crate::number::number;
 
+// A record as a line says it.
 #[derive(Clone, Copy)]
-pub enum Said {
-    Nothing,
-    Wrong,
-    Firing { tick: u32, vector: u32 },
+pub struct Firing {
+    pub tick: u32,
+    pub vector: u32,
 }
 
-// Behind the blanks that stand at `at`.
-fn skip(line: &[u8], at: usize) -> usize
-    ensures { result ≡ at + blanks (drop at line.now) }
+// What stands behind the blanks in front.
+fn past_blanks(text: &[u8]) -> &[u8]
+    ensures { result.now ≡ drop (blanks text.now) text.now }
 {
-    let mut i = at;
-    while i < line.len() {
-        let c = line[i];
-        if (c != b' ') & (c != b'\t') {
-            return i;
+    for (n, c) in text.iter().enumerate() {
+        if (*c != b' ') & (*c != b'\t') {
+            return &text[n..];
         }
-        i += 1;
     }
-    i
+    &text[text.len()..]
 }
 
-// Whether nothing stands at `at` but a remark.
-fn is_over(line: &[u8], at: usize) -> bool
-    ensures { result ≡ is_over (drop at line.now) }
+// Whether nothing stands here but a remark.
+fn is_over(text: &[u8]) -> bool
+    ensures { result ≡ is_over text.now }
 {
-    if at >= line.len() {
-        return true;
-    }
-    line[at] == b'#'
+    matches!(text, [] | [b'#', ..])
 }
 
-pub fn said_by(line: &[u8]) -> Said
-    ensures { result ≡ line_of line.now }
+// A tick and a vector, and nothing else.
+fn two_numbers(text: &[u8]) -> Option<Firing>
+    ensures { firing_said result ≡ firing_of text.now }
 {
-    let first = skip(line, 0);
-    if is_over(line, first) {
-        return Said::Nothing;
-    }
-    let tick = number_at(line, first);
-    let behind = first + tick.length;
-    let second = skip(line, behind);
-    let vector = number_at(line, second);
-    let end = skip(line, second + vector.length);
-    if (tick.length > 0) & (behind < second) & (vector.length > 0) & is_over(line, end) {
-        Said::Firing {
-            tick: tick.value,
-            vector: vector.value,
-        }
+    let (tick, behind) = number(text)?;
+    let second = past_blanks(behind);
+    let (vector, end) = number(second)?;
+    if (second.len() < behind.len()) & is_over(past_blanks(end)) {
+        Some(Firing { tick, vector })
     } else {
-        Said::Wrong
+        None
     }
+}
+
+#[tactic(auto, unfolding(crate::specs::Reading::line_of))]
+pub fn said_by(line: &[u8]) -> Result<Option<Firing>, Fault>
+    ensures { result ≡ line_said (line_of line.now) }
+{
+    let bare = past_blanks(line);
+    if is_over(bare) {
+        return Ok(None);
+    }
+    let said = two_numbers(bare).ok_or(Fault::Form)?;
+    Ok(Some(said))
 }

@@ -1,8 +1,7 @@
 -- 01's bench sheet on the Rust's definition, each row with all that its tick leaves; row 1 is `decode`'s. And: the theorem speaks of every fresh core.
-use Rattle.std.specs.Prelude.{◌≡◌, Bool, true, false, List, [], ◌∷◌, ℕ, ◌<◌, replicate, set}
+use Rattle.std.specs.Prelude.{◌≡◌, Bool, true, false, List, [], ◌∷◌, ℕ, ◌<◌, replicate, set, Some, None}
 use Rattle.cores.specs.declared.Core.{Core}
 use Rattle.cores.specs.State.{Sound, fresh_of, with_reg, with_word, with_sreg, with_pc, with_sp, with_busy, with_inhibit, with_service}
-use Rattle.std.specs.Prelude.{Some, None}
 use Rattle.source.specs.Monad.{ok, panic}
 use Rattle.source.specs.Tick.{tick}
 use Rattle.source.specs.Statement.{self_of}

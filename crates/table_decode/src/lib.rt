@@ -10,6 +10,7 @@ use forms::form::*;
 use instruction::Instruction;
 
 // One match, an arm a form, in the order of the enum. The word is `w`.
+#[tactic(auto, unfolding(forms::specs::Instructions::instruction_of))]
 pub fn instruction_of(form: u8, w: u16, prefetch: u16) -> Instruction
     ensures { result ≡ instruction_of form w prefetch }
 {

@@ -1,15 +1,15 @@
 -- 02, W7: "Make two operations: one tells the answer that the tick would give, reading core, program, data and offer and writing nothing; the other carries it out."
 -- k is a core, p a program, m the bytes of data, o an offer, v a vector, n a number of the table, i an instruction.
-use Rattle.std.specs.Prelude.{◌≡◌, false, List, ℕ, ◌-◌, eqb, ltb}
+use Rattle.std.specs.Prelude.{◌≡◌, false, List, ℕ, ◌-◌, eqb, ltb, Some, None, Result, Ok, Err}
 use Rattle.basis.specs.Pick.{pick}
 use Rattle.instruction.specs.Decode.{decode_of}
 use Rattle.cores.specs.declared.Core.{Core}
 use Rattle.cores.specs.State.{Out, out, with_busy, with_inhibit}
 use Rattle.cores.specs.Flow.{op_at}
-use Rattle.execute.specs.Needs.{refusal, push_needs, needs, fetched, with_fetch}
+use Rattle.execute.specs.Needs.{lack_number, refusal, push_needs, needs, fetched, with_fetch}
 use Rattle.execute.specs.Execute.{behind, executed, effect_of, done_of}
+use Rattle.execute.specs.declared.lack.Lack.{Lack}
 use Rattle.tick.specs.Offer.{Offer}
-use Rattle.std.specs.Prelude.{Some, None}
 use Rattle.tick.specs.declared.Answer.{Answer}
 use Rattle.tick.specs.declared.Answer.TheVariants as answer
 use Rattle.tick.specs.declared.Plan.{Plan}
@@ -20,6 +20,11 @@ use Rattle.tick.specs.Tick.{answer_of, due, entry, tick_of}
 -- what is to be done where nothing is lacking, n being 0; else n, the refusal
 abbrev pub granted : ℕ → Plan → Plan
 granted n plan = pick (eqb n 0) plan (Refuse n)
+
+-- a plan, or what is lacking, by its number
+abbrev pub said_plan : Result Plan Lack → Plan
+said_plan (Ok plan) = plan
+said_plan (Err l) = Refuse (lack_number l)
 
 -- step 5: "Fetch, decode"
 unfoldable pub step_plan : Core → List ℕ → List ℕ → Plan

@@ -1,5 +1,5 @@
 -- 01, 'One tick, in this order'. k is a core, p a program, m the bytes of data, o an offer, v a vector, a an answer, n a number of the table, t what a tick gives.
-use Rattle.std.specs.Prelude.{◌≡◌, Bool, true, false, List, ℕ, ◌+◌, ◌-◌, eqb, ltb}
+use Rattle.std.specs.Prelude.{◌≡◌, Bool, true, false, List, ℕ, ◌+◌, ◌-◌, eqb, ltb, Some, None}
 use Rattle.basis.specs.Pick.{pick}
 use Rattle.instruction.specs.Decode.{decode_of}
 use Rattle.instruction.specs.declared.Instruction.{Instruction}
@@ -11,7 +11,6 @@ use Rattle.execute.specs.Execute.{Executed, executed}
 use Rattle.execute.specs.declared.Done.{Done}
 use Rattle.execute.specs.declared.Done.TheVariants as done
 use Rattle.tick.specs.Offer.{Offer}
-use Rattle.std.specs.Prelude.{Some, None}
 use Rattle.tick.specs.declared.Answer.{Answer}
 use Rattle.tick.specs.declared.Answer.TheVariants.{Refused, Waited, Entered, Ran, Sleep, Watchdog, Undefined, Break, End}
 use Rattle.tick.specs.declared.Ticked.{Ticked}

@@ -7,33 +7,37 @@ ghost use Rattle.tick.specs.Plan.{carried_out};
 use crate::Plan;
 use cores::Core;
 
+#[tactic(auto, unfolding(cores::specs::State::with_busy))]
 fn wait(core: Core) -> Core
     ensures { result ≡ with_busy core (core.busy - 1) }
 {
-    let mut next = core;
-    if core.busy > 0 {
-        next.busy = core.busy - 1;
+    Core {
+        busy: core.busy.saturating_sub(1),
+        ..core
     }
-    next
 }
 
 // An interrupt: PC goes on the stack, and the vector is where it goes on.
+#[tactic(auto, unfolding(cores::specs::State::with_pc, cores::specs::State::with_busy, cores::specs::State::with_service))]
 fn enter(core: Core, vector: u16, data: &mut [u8]) -> Core
     ensures { Leaves (entry core vector «data».old) result «data».new }
 {
-    let mut next = core.push_word(core.pc, data);
-    next.pc = vector;
-    next.busy = 4; // 2 cycles to push PC + 3 cycles for jmp to vector
-    next.in_service = true;
-    next
+    Core {
+        pc: vector,
+        busy: 4, // 2 cycles to push PC + 3 cycles for jmp to vector
+        in_service: true,
+        ..core.push_word(core.pc, data)
+    }
 }
 
+#[tactic(auto, unfolding(cores::specs::State::with_inhibit))]
 fn end(core: Core) -> Core
     ensures { result ≡ with_inhibit core false }
 {
-    let mut next = core;
-    next.inhibit = false;
-    next
+    Core {
+        inhibit: false,
+        ..core
+    }
 }
 
 // Each `return` is a copy of the core less than the value of the match.

@@ -1,10 +1,11 @@
 // The first operation: what is to be done, by core, program, data and offer. Nothing is written.
 ghost use Rattle.std.specs.Prelude.{◌≡◌};
 ghost use Rattle.tick.specs.Tick.{due};
-ghost use Rattle.tick.specs.Plan.{granted, step_plan, plan_of};
+ghost use Rattle.tick.specs.Plan.{said_plan, step_plan, entry_or_step, plan_of};
 
 use crate::{Plan, words};
 use cores::Core;
+use execute::Lack;
 
 // The offer, where an interrupt is to be entered now.
 fn due(core: Core, offer: Option<u16>) -> Option<u16>
@@ -21,24 +22,35 @@ fn due(core: Core, offer: Option<u16>) -> Option<u16>
     }
 }
 
-// The plan, where nothing is lacking.
-fn granted(lack: u8, plan: Plan) -> Plan
-    ensures { result ≡ granted lack plan }
-{
-    if lack == 0 { plan } else { Plan::Refuse(lack) }
-}
-
 // The instruction at PC, where its words and all that it needs are there.
-fn step(core: Core, program: &[u8], data: &[u8]) -> Plan
-    ensures { result ≡ step_plan core program.now «data».now }
+#[tactic(auto, unfolding(crate::specs::Plan::step_plan))]
+fn step(core: Core, program: &[u8], data: &[u8]) -> Result<Plan, Lack>
+    ensures { said_plan result ≡ step_plan core program.now «data».now }
 {
     let op = words::fetch(program, core.pc);
     if !words::has_words(op, program, core.pc) {
-        return Plan::Refuse(1);
+        return Err(Lack::Program);
     }
-    granted(execute::refusal(core, op, program, data), Plan::Execute(op))
+    execute::refusal(core, op, program, data)?;
+    Ok(Plan::Execute(op))
 }
 
+// The entry into an interrupt that is due, or else the step. Terminate if PC overflows to prevent program from restarting
+#[tactic(auto, unfolding(crate::specs::Plan::entry_or_step))]
+fn enter_or_step(core: Core, program: &[u8], data: &[u8], due: Option<u16>) -> Result<Plan, Lack>
+    ensures { said_plan result ≡ entry_or_step core program.now «data».now due }
+{
+    match due {
+        Some(vector) => {
+            execute::push_refusal(core, data)?;
+            Ok(Plan::Enter(vector))
+        }
+        None if core.pc == 65535 => Ok(Plan::End),
+        None => step(core, program, data),
+    }
+}
+
+#[tactic(auto, unfolding(crate::specs::Plan::plan_of))]
 pub fn decide(core: Core, program: &[u8], data: &[u8], offer: Option<u16>) -> Plan
     ensures { result ≡ plan_of core program.now «data».now offer }
 {
@@ -49,16 +61,8 @@ pub fn decide(core: Core, program: &[u8], data: &[u8], offer: Option<u16>) -> Pl
     if core.busy > 0 {
         return Plan::Wait;
     }
-    let vector = due(core, offer);
-    match vector {
-        Some(address) => granted(execute::push_refusal(core, data), Plan::Enter(address)),
-        None => {
-            // Terminate if PC overflows to prevent program from restarting
-            if core.pc == 65535 {
-                Plan::End
-            } else {
-                step(core, program, data)
-            }
-        }
+    match enter_or_step(core, program, data, due(core, offer)) {
+        Ok(plan) => plan,
+        Err(lack) => Plan::Refuse(lack.into()),
     }
 }

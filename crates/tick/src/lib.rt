@@ -15,7 +15,8 @@ mod words;
 pub use carrying::carry_out;
 pub use deciding::decide;
 
-#[derive(Clone, Copy)]
+// Of `Refused` and `Refuse` any number is an answer and a plan, not 1 to 5 alone: what takes them says what it does with each, and a narrower type would ask more of callers.
+#[derive(Clone, Copy, Debug, PartialEq, Eq)]
 pub enum Answer {
     Refused(u8),
     Waited,
@@ -48,54 +49,25 @@ pub struct Ticked {
 pub fn number(answer: Answer) -> u8
     ensures { result ≡ number_of answer }
 {
-    match answer {
-        Answer::Refused(n) => n,
-        Answer::Waited => 16,
-        Answer::Entered => 17,
-        Answer::Ran => 18,
-        Answer::Sleep => 19,
-        Answer::Watchdog => 20,
-        Answer::Undefined => 21,
-        Answer::Break => 22,
-        Answer::End => 23,
-    }
+    answer.into()
 }
 
 // A refused tick changed nothing.
 pub fn refuses(answer: Answer) -> bool
     ensures { result ≡ refuses answer }
 {
-    match answer {
-        Answer::Refused(_) => true,
-        Answer::Waited => false,
-        Answer::Entered => false,
-        Answer::Ran => false,
-        Answer::Sleep => false,
-        Answer::Watchdog => false,
-        Answer::Undefined => false,
-        Answer::Break => false,
-        Answer::End => false,
-    }
+    matches!(answer, Answer::Refused(_))
 }
 
 // Break and the end: the Rust's `false`.
 pub fn stops(answer: Answer) -> bool
     ensures { result ≡ stops answer }
 {
-    match answer {
-        Answer::Break => true,
-        Answer::End => true,
-        Answer::Refused(_) => false,
-        Answer::Waited => false,
-        Answer::Entered => false,
-        Answer::Ran => false,
-        Answer::Sleep => false,
-        Answer::Watchdog => false,
-        Answer::Undefined => false,
-    }
+    matches!(answer, Answer::Break | Answer::End)
 }
 
 // The answer that `tick` would give now. Nothing is written.
+#[tactic(auto, using(crate::proofs::Foretold::answered))]
 pub fn foretell(core: Core, program: &[u8], data: &[u8], offer: Option<u16>) -> Answer
     ensures { result ≡ (tick_of core program.now «data».now offer).answer }
 {
@@ -113,24 +85,11 @@ pub fn tick(core: Core, program: &[u8], data: &mut [u8], offer: Option<u16>) -> 
     }
 }
 
-fn core_of(ticked: Ticked) -> Core
-    ensures { result ≡ ticked.core }
-{
-    ticked.core
-}
-
-fn answer_in(ticked: Ticked) -> Answer
-    ensures { result ≡ ticked.answer }
-{
-    let answer = ticked.answer;
-    answer
-}
-
 // The bench loop's form: its one core is lent, and changed at each tick.
 pub fn tick_in_place(core: &mut Core, program: &[u8], data: &mut [u8], offer: Option<u16>) -> Answer
     ensures { Ticks (tick_of core.old program.now «data».old offer) (in_place result core.new) «data».new }
 {
     let ticked = tick(*core, program, data, offer);
-    *core = core_of(ticked);
-    answer_in(ticked)
+    *core = ticked.core;
+    ticked.answer
 }

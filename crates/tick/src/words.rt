@@ -15,6 +15,7 @@ pub(crate) fn fetch(program: &[u8], pc: u16) -> Instruction
 }
 
 // The opcode, and the second word of an instruction of two, are in the program.
+#[tactic(auto, unfolding(memory::specs::Memory::has_word_of))]
 pub(crate) fn has_words(op: Instruction, program: &[u8], pc: u16) -> bool
     ensures { result ≡ fetched program.now pc op }
 {

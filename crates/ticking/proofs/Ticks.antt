@@ -1,5 +1,5 @@
 -- Of so many ticks: none is left, or one is made and one less is left.
-use Rattle.std.proofs.Common.{◌≡◌, ℕ, zero, suc, ◌-◌, ◌<◌, ◌≤◌, List, ◌∙◌, subst, arith}
+use Rattle.std.proofs.Common.{◌≡◌, ℕ, zero, suc, ◌≤◌, List, arith}
 use Rattle.cores.specs.declared.Core.{Core}
 use Rattle.tick.specs.Offer.{Offer}
 use Rattle.tick.specs.Tick.{tick_of}
@@ -10,9 +10,6 @@ unfolding after_of
 none_left zero z k p m o w e = e
 none_left (suc i) z k p m o w e = absurd (omega arith)
 
-pub one_less : (i : ℕ) → 0 < i → (k k' : Core) (p m m' : List ℕ) (o : Offer) (w : Left) → k' ≡ (tick_of k p m o).core → m' ≡ (tick_of k p m o).bytes → after_of i k p m o ≡ w → after_of (i - 1) k' p m' o ≡ w
+pub one_less : (i j : ℕ) → i ≡ suc j → (k k' : Core) (p m m' : List ℕ) (o : Offer) (w : Left) → k' ≡ (tick_of k p m o).core → m' ≡ (tick_of k p m o).bytes → after_of i k p m o ≡ w → after_of j k' p m' o ≡ w
 unfolding after_of
-one_less zero z k k' p m m' o w core bytes e = absurd (omega arith)
-one_less (suc i) z k k' p m m' o w core bytes e =
-    let back : i ≡ suc i - 1 = omega arith in
-    subst (λ (left : ℕ). after_of left k' p m' o ≡ w) back ((λ j. after_of i (core j) p (bytes j) o) ∙ e)
+one_less i j h k k' p m m' o w core bytes e = rw (core, bytes) (rw h at e)

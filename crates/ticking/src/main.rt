@@ -12,10 +12,8 @@ fn after(first: Core, program: &[u8], data: &mut [u8], offer: Option<u16>, ticks
     ensures { record { core = result; bytes = «data».new } ≡ after_of ticks first program.now «data».old offer }
 {
     let mut core = first;
-    let mut left = ticks;
-    while left > 0 {
+    for _ in 0..ticks {
         tick::tick_in_place(&mut core, program, data, offer);
-        left -= 1;
     }
     core
 }
@@ -23,15 +21,19 @@ fn after(first: Core, program: &[u8], data: &mut [u8], offer: Option<u16>, ticks
 fn main(rt: HostRuntime) -> io::Result<()> {
     let mut input = Vec::new(rt.alloc());
     rt.reader().take(4 + 131072).read_to_end(&mut input)?;
-    let high = memory::read_word(&[memory::read(&input, 1), memory::read(&input, 0)], 0) as u32;
-    let low = memory::read_word(&[memory::read(&input, 3), memory::read(&input, 2)], 0) as u32;
+    let ticks = u32::from_be_bytes([
+        memory::read(&input, 0),
+        memory::read(&input, 1),
+        memory::read(&input, 2),
+        memory::read(&input, 3),
+    ]);
     let mut data = [0u8; 16384];
     let last = after(
         Core::fresh(0),
         input.get(4..).unwrap_or(&[]),
         &mut data,
         None,
-        high * 65536 + low,
+        ticks,
     );
     println!(rt; "{} {}", last.pc, last.get_register(16))
 }

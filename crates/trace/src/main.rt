@@ -8,14 +8,11 @@ const IMAGE: u64 = 6 + 49152;
 // The longest trace: a line for each tick of the largest budget.
 const TEXT: usize = 65535 * 36;
 
-fn print(rt: &impl Print, input: &[u8], out: &mut [u8]) -> io::Result<()> {
-    let end = tracing::trace(input, out);
-    rt.write_all(&out[..end])
-}
-
+// list and rerun have such a main too: one for all would be public, could promise nothing of what is written, and would have to test `end`.
 fn main(rt: HostRuntime) -> io::Result<()> {
     let mut input = Vec::new(rt.alloc());
     rt.reader().take(IMAGE).read_to_end(&mut input)?;
     let mut out = vec![in rt.alloc(); 0u8; TEXT]?;
-    print(&rt, &input, &mut out)
+    let end = tracing::trace(&input, &mut out);
+    rt.write_all(&out[..end])
 }

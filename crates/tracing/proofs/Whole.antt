@@ -11,8 +11,7 @@ use Rattle.basis.specs.Bytes.{Bytes}
 use Rattle.cores.specs.declared.Core.{Core}
 use Rattle.cores.specs.State.{fresh_of}
 use Rattle.tick.specs.Tick.{refuses, stops, tick_of}
-use Rattle.std.specs.Prelude.{None}
-use Rattle.tracing.specs.declared.job.Job.TheVariants.{Bad, Trace}
+use Rattle.std.specs.Prelude.{Some, None}
 use Rattle.page.proofs.Laid.{in_front}
 use Rattle.tracing.specs.Trace.{word_in, line_of, lines_of, zeros, text_of, trace_of, WholeTrace}
 use Rattle.tracing.proofs.Short.{line_short}
@@ -31,7 +30,7 @@ lines_short (suc b) number k p m =
     (line_short number k.pc t.answer t.core) (lines_short b (number + 1) t.core p t.bytes)
 
 job_short : (t u : Bool) (size sp budget : ℕ) (s : List ℕ) → budget ≤ 65535
-    → length (text_of (pick t Bad (pick u Bad (Trace size sp budget))) s) ≤ 65535 * 36
+    → length (text_of (pick t None (pick u None (Some (record { size = size; sp = sp; budget = budget })))) s) ≤ 65535 * 36
 job_short true u size sp budget s h = omega arith
 job_short false true size sp budget s h = omega arith
 job_short false false size sp budget s h = omega (arith, lines_short budget 1 (fresh_of sp) (take size (drop 6 s)) zeros)

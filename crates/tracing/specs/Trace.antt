@@ -1,5 +1,5 @@
 -- 01, "Program `trace`".
-use Rattle.std.specs.Prelude.{◌≡◌, ◌||◌, List, [], ◌∷◌, ◌++◌, ℕ, zero, suc, ◌+◌, ◌*◌, ◌%◌, ◌≤◌, ltb, get_or, take, drop, length, replicate}
+use Rattle.std.specs.Prelude.{◌≡◌, ◌||◌, List, [], ◌∷◌, ◌++◌, ℕ, zero, suc, Option, Some, None, ◌+◌, ◌*◌, ◌%◌, ◌≤◌, ltb, get_or, take, drop, length, replicate}
 use Rattle.basis.specs.Pick.{pick}
 use Rattle.basis.specs.Bytes.{Bytes}
 use Rattle.basis.specs.Text.{text, line}
@@ -12,17 +12,16 @@ use Rattle.std.specs.Prelude.{None}
 use Rattle.tick.specs.declared.Answer.{Answer}
 use Rattle.tick.specs.declared.Answer.TheVariants.{Refused, Waited, Entered, Ran, Sleep, Watchdog, Undefined, Break, End}
 use Rattle.tracing.specs.declared.job.Job.{Job}
-use Rattle.tracing.specs.declared.job.Job.TheVariants.{Bad, Trace}
 
 -- ---- input: "three 16-bit numbers, high byte first (program bytes P, SP, budget), then P bytes; the rest is ignored.
 -- P above 49,152 or input too short prints `bad input`."
 abbrev pub word_in : List ℕ → ℕ → ℕ
 word_in s at = get_or s at 0 * 256 + get_or s (at + 1) 0
 
-abbrev pub job_of : List ℕ → Job
+abbrev pub job_of : List ℕ → Option Job
 job_of s =
     let size = word_in s 0 in
-    pick (ltb 49152 size) Bad (pick (ltb (length s) (size + 6)) Bad (Trace size (word_in s 2) (word_in s 4)))
+    pick (ltb 49152 size) None (pick (ltb (length s) (size + 6)) None (Some (record { size = size; sp = word_in s 2; budget = word_in s 4 })))
 
 -- ---- "PC and SP four hex digits, SREG two" (`hex4`, `hex2`), "decimal number" (`decimal`)
 -- "Words: waited ran sleep watchdog undefined break end, or `refused-N`"; no vector is offered, so no line says entered
@@ -67,9 +66,9 @@ abbrev pub ticks_of : ℕ → ℕ → List ℕ → List ℕ
 ticks_of sp budget p = lines_of budget 1 (fresh_of sp) p zeros
 
 -- "then P bytes; the rest is ignored."
-abbrev pub text_of : Job → List ℕ → List ℕ
-text_of Bad s = line "bad input"
-text_of (Trace size sp budget) s = ticks_of sp budget (take size (drop 6 s))
+abbrev pub text_of : Option Job → List ℕ → List ℕ
+text_of None s = line "bad input"
+text_of (Some j) s = ticks_of j.sp j.budget (take j.size (drop 6 s))
 
 -- all that the program prints for an input
 abbrev pub trace_of : List ℕ → List ℕ

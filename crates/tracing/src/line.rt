@@ -1,60 +1,53 @@
-// A tick's line, field by field into the buffer.
-ghost use Rattle.page.specs.Page.{page, Puts};
+// A tick's line, field by field.
+ghost use Rattle.page.specs.Gains.{Gains};
 ghost use Rattle.tracing.specs.Trace.{word_of, core_of, line_of};
 
 use cores::Core;
-use page::{put_byte, put_decimal, put_hex2, put_hex4, put_text};
+use page::Page;
 use tick::Answer;
 
-fn put_word(out: &mut [u8], at: usize, answer: Answer) -> usize
-    ensures { Puts (page out.old at) (word_of answer) (page out.new result) }
+fn put_word(page: &mut Page<'_>, answer: Answer)
+    ensures { Gains page.old (word_of answer) page.new }
 {
     match answer {
         Answer::Refused(n) => {
-            let at = put_text(out, at, b"refused-");
-            put_byte(out, at, 48 + n % 10)
+            page.put_text(b"refused-");
+            page.put_byte(b'0' + n % 10);
         }
-        Answer::Waited => put_text(out, at, b"waited"),
-        Answer::Entered => put_text(out, at, b"entered"),
-        Answer::Ran => put_text(out, at, b"ran"),
-        Answer::Sleep => put_text(out, at, b"sleep"),
-        Answer::Watchdog => put_text(out, at, b"watchdog"),
-        Answer::Undefined => put_text(out, at, b"undefined"),
-        Answer::Break => put_text(out, at, b"break"),
-        Answer::End => put_text(out, at, b"end"),
+        Answer::Waited => page.put_text(b"waited"),
+        Answer::Entered => page.put_text(b"entered"),
+        Answer::Ran => page.put_text(b"ran"),
+        Answer::Sleep => page.put_text(b"sleep"),
+        Answer::Watchdog => page.put_text(b"watchdog"),
+        Answer::Undefined => page.put_text(b"undefined"),
+        Answer::Break => page.put_text(b"break"),
+        Answer::End => page.put_text(b"end"),
     }
 }
 
 // PC, busy, SREG, SP.
-fn put_core(out: &mut [u8], at: usize, core: Core) -> usize
-    ensures { Puts (page out.old at) (core_of core) (page out.new result) }
+fn put_core(page: &mut Page<'_>, core: Core)
+    ensures { Gains page.old (core_of core) page.new }
 {
-    let at = put_hex4(out, at, core.pc);
-    let at = put_byte(out, at, b' ');
-    let at = put_byte(out, at, 48 + core.busy % 10);
-    let at = put_byte(out, at, b' ');
-    let at = put_hex2(out, at, core.sreg);
-    let at = put_byte(out, at, b' ');
-    put_hex4(out, at, core.sp)
+    page.put_hex4(core.pc);
+    page.put_byte(b' ');
+    page.put_byte(b'0' + core.busy % 10);
+    page.put_byte(b' ');
+    page.put_hex2(core.sreg);
+    page.put_byte(b' ');
+    page.put_hex4(core.sp);
 }
 
 // The line of a tick: its number, PC before, the answer's word, the core after.
-pub fn put_line(
-    out: &mut [u8],
-    at: usize,
-    number: u16,
-    before: u16,
-    answer: Answer,
-    core: Core,
-) -> usize
-    ensures { Puts (page out.old at) (line_of number before answer core) (page out.new result) }
+pub fn put_line(page: &mut Page<'_>, number: u16, before: u16, answer: Answer, core: Core)
+    ensures { Gains page.old (line_of number before answer core) page.new }
 {
-    let at = put_decimal(out, at, number);
-    let at = put_byte(out, at, b' ');
-    let at = put_hex4(out, at, before);
-    let at = put_byte(out, at, b' ');
-    let at = put_word(out, at, answer);
-    let at = put_byte(out, at, b' ');
-    let at = put_core(out, at, core);
-    put_byte(out, at, b'\n')
+    page.put_decimal(number);
+    page.put_byte(b' ');
+    page.put_hex4(before);
+    page.put_byte(b' ');
+    put_word(page, answer);
+    page.put_byte(b' ');
+    put_core(page, core);
+    page.put_byte(b'\n');
 }

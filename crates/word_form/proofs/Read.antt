@@ -1,4 +1,4 @@
--- Which words have a second one, and that what stands there does not change it. w is a word, s a second word, i an instruction.
+-- Which words have a second one. w is a word, i an instruction.
 -- Assumes nothing.
 use mathlib.Core.Bool.{Bool, false, ◌&&◌, ◌||◌, beq}
 use mathlib.Core.List.{[], ◌∷◌, ◌++◌}
@@ -13,7 +13,6 @@ use Rattle.instruction.specs.Code.{two_words}
 use Rattle.instruction.specs.Decode.{Cases, look, under, decode_of, nop_to_add_of, nop_to_add, mulsu_to_fmulsu_of, mulsu_to_fmulsu, cpse_to_adc_of, cpse_to_adc, and_to_mov_of, and_to_mov, immediate_of, immediate, displaced_of, displaced, load_of, store_of, one_register_of, control_of, indirect_of, word_immediate_of, word_immediate, port_bit_of, port_bit, mul_of, port_of, port, relative_of, relative, branch_or_bit_of, branch_or_bit, register_bit_of, register_bit}
 use Rattle.instruction.specs.declared.Instruction.{Instruction}
 use Rattle.instruction.proofs.Cases.{Past, All, all_looked, all_ranged}
-use Rattle.forms.proofs.Alone.{form_alone}
 
 -- LDS and STS; JMP and CALL
 abbrev pub second_of : ℕ → Bool
@@ -141,11 +140,3 @@ second_is w =
     (λ e. let h = ltb-true w 0x9000 e in not_second w (λ e. omega (arith, h, e)) (λ e. omega (arith, h, e)) ∙ below w h)
     (λ e. test (ltb w 0x9600) (λ f. between w (ltb-false w 0x9000 e) (ltb-true w 0x9600 f))
     (λ f. let h = ltb-false w 0x9600 f in not_second w (λ e. omega (arith, h, e)) (λ e. omega (arith, h, e)) ∙ above w h))
-
--- ---- the second word
--- by the form alone: CALL, JMP, LDS, STS
-abbrev two : ℕ → Bool
-two f = eqb f 13 || (eqb f 29 || (eqb f 40 || (eqb f 81 || false)))
-
-pub second_alone : (w s : ℕ) → two_words (decode_of w s) ≡ two_words (decode_of w 0)
-second_alone w s = ap two (form_alone w s)

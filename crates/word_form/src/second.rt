@@ -7,6 +7,7 @@ use forms::form::*;
 use forms::further;
 
 // 0x0000 to 0x03FF.
+#[tactic(auto, unfolding(instruction::specs::Decode::decode_of, instruction::specs::Decode::nop_to_add_of))]
 pub(crate) fn nop_to_multiply(opcode: u16) -> u8
     requires { opcode / 1024 ≡ 0 }
     ensures { result ≡ form_of opcode }
@@ -20,6 +21,7 @@ pub(crate) fn nop_to_multiply(opcode: u16) -> u8
 }
 
 // 0x0000 to 0x00FF.
+#[tactic(auto, unfolding(instruction::specs::Decode::decode_of, instruction::specs::Decode::nop_to_add_of))]
 fn nop(opcode: u16) -> u8
     requires { opcode / 256 ≡ 0 }
     ensures { result ≡ form_of opcode }
@@ -31,6 +33,7 @@ fn nop(opcode: u16) -> u8
 }
 
 // 0x8000 to 0x8FFF, and 0xA000 to 0xAFFF.
+#[tactic(auto, unfolding(instruction::specs::Decode::displaced_of))]
 pub(crate) fn displaced(opcode: u16) -> u8
     ensures { result ≡ form (displaced_of opcode) }
 {
@@ -43,6 +46,7 @@ pub(crate) fn displaced(opcode: u16) -> u8
 }
 
 // 0x9000 to 0x93FF.
+#[tactic(auto, unfolding(instruction::specs::Decode::decode_of))]
 pub(crate) fn load_or_store(opcode: u16) -> u8
     requires { opcode / 1024 ≡ 36 }
     ensures { result ≡ form_of opcode }
@@ -54,6 +58,7 @@ pub(crate) fn load_or_store(opcode: u16) -> u8
 }
 
 // 0x9000 to 0x91FF.
+#[tactic(auto, unfolding(instruction::specs::Decode::load_of))]
 fn load(opcode: u16) -> u8
     ensures { result ≡ form (load_of opcode 0) }
 {
@@ -74,6 +79,7 @@ fn load(opcode: u16) -> u8
 }
 
 // 0x9200 to 0x93FF.
+#[tactic(auto, unfolding(instruction::specs::Decode::store_of))]
 fn store(opcode: u16) -> u8
     ensures { result ≡ form (store_of opcode 0) }
 {
@@ -92,6 +98,7 @@ fn store(opcode: u16) -> u8
 }
 
 // 0x9400 to 0x97FF.
+#[tactic(auto, unfolding(instruction::specs::Decode::decode_of, instruction::specs::Decode::word_immediate_of))]
 pub(crate) fn one_register_or_word(opcode: u16) -> u8
     requires { opcode / 1024 ≡ 37 }
     ensures { result ≡ form_of opcode }
@@ -104,6 +111,7 @@ pub(crate) fn one_register_or_word(opcode: u16) -> u8
 }
 
 // 0x9400 to 0x95FF.
+#[tactic(auto, unfolding(instruction::specs::Decode::one_register_of))]
 fn one_register(opcode: u16) -> u8
     ensures { result ≡ form (one_register_of opcode 0) }
 {
@@ -127,6 +135,7 @@ fn one_register(opcode: u16) -> u8
 }
 
 // 0x9800 to 0x9BFF.
+#[tactic(auto, unfolding(instruction::specs::Decode::port_bit_of))]
 pub(crate) fn port_bit(opcode: u16) -> u8
     ensures { result ≡ form (port_bit_of opcode) }
 {
@@ -139,6 +148,7 @@ pub(crate) fn port_bit(opcode: u16) -> u8
 }
 
 // 0xF800 to 0xFBFF.
+#[tactic(auto, unfolding(instruction::specs::Decode::decode_of, instruction::specs::Decode::branch_or_bit_of, instruction::specs::Decode::register_bit_of))]
 pub(crate) fn bld_or_bst(opcode: u16) -> u8
     requires { opcode / 1024 ≡ 62 }
     ensures { result ≡ form_of opcode }
@@ -150,7 +160,8 @@ pub(crate) fn bld_or_bst(opcode: u16) -> u8
     }
 }
 
-// 0xFC00 to 0xFFFF.
+// 0xFC00 to 0xFFFF. As `bld_or_bst`: one function for both would take the two forms as parameters, away from their patterns.
+#[tactic(auto, unfolding(instruction::specs::Decode::decode_of, instruction::specs::Decode::branch_or_bit_of, instruction::specs::Decode::register_bit_of))]
 pub(crate) fn sbrc_or_sbrs(opcode: u16) -> u8
     requires { opcode / 1024 ≡ 63 }
     ensures { result ≡ form_of opcode }

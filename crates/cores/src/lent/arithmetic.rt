@@ -103,7 +103,7 @@ pub fn dec(regs: &mut [u8], d: u8, sreg: u8) -> u8
 {
     // Rd <- Rd - 1
     let Rd = memory::read(regs, d as usize);
-    let R = std::num::wrapping_sub_u8(Rd, 1);
+    let R = Rd.wrapping_sub(1);
     put_result(regs, d, R, Rd == 0x80, sreg)
 }
 
@@ -122,7 +122,7 @@ pub fn inc(regs: &mut [u8], d: u8, sreg: u8) -> u8
 {
     // Rd <- Rd + 1
     let Rd = memory::read(regs, d as usize);
-    let R = std::num::wrapping_add_u8(Rd, 1);
+    let R = Rd.wrapping_add(1);
     put_result(regs, d, R, Rd == 0x7F, sreg)
 }
 
@@ -132,7 +132,7 @@ pub fn neg(regs: &mut [u8], d: u8, sreg: u8) -> u8
 {
     // Rd <- ~Rd + 1
     let Rd = memory::read(regs, d as usize);
-    let R = std::num::wrapping_sub_u8(0, Rd);
+    let R = Rd.wrapping_neg();
     let H = basis::bit(R, 3) | basis::bit(Rd, 3);
     memory::write(regs, d as usize, R);
     flags::cznvsh(sreg, R != 0, R == 0, R >= 128, R == 0x80, H)

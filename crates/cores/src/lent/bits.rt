@@ -57,9 +57,10 @@ pub fn ror(regs: &mut [u8], d: u8, sreg: u8) -> u8
     shift(regs, d, basis::bit(sreg, Core::C), sreg)
 }
 
+#[tactic(auto, using(crate::proofs::Swapped::swapped), unfolding(crate::specs::State::with_regs, crate::specs::State::with_reg))]
 pub fn swap(regs: &mut [u8], d: u8)
     ensures { regs.new ≡ (swap_of (holding regs.old) d).regs }
 {
     let Rd = memory::read(regs, d as usize);
-    memory::write(regs, d as usize, Rd % 16 * 16 + Rd / 16);
+    memory::write(regs, d as usize, Rd.rotate_left(4));
 }

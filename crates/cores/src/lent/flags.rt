@@ -6,12 +6,14 @@ ghost use Rattle.cores.specs.State.{cz, znvs, cznvs, cznvsh};
 use crate::Core;
 use alu::Sum;
 
+#[tactic(auto, unfolding(crate::specs::State::cz))]
 pub(crate) fn cz(sreg: u8, C: bool, Z: bool) -> u8
     ensures { result ≡ cz sreg C Z }
 {
     basis::with_bit(basis::with_bit(sreg, Core::C, C), Core::Z, Z)
 }
 
+#[tactic(auto, unfolding(crate::specs::State::znvs))]
 pub(crate) fn znvs(sreg: u8, Z: bool, N: bool, V: bool) -> u8
     ensures { result ≡ znvs sreg Z N «V» }
 {
@@ -21,12 +23,14 @@ pub(crate) fn znvs(sreg: u8, Z: bool, N: bool, V: bool) -> u8
     basis::with_bit(v, Core::S, N != V)
 }
 
+#[tactic(auto, unfolding(crate::specs::State::cznvs))]
 pub(crate) fn cznvs(sreg: u8, C: bool, Z: bool, N: bool, V: bool) -> u8
     ensures { result ≡ cznvs sreg C Z N «V» }
 {
     znvs(basis::with_bit(sreg, Core::C, C), Z, N, V)
 }
 
+#[tactic(auto, unfolding(crate::specs::State::cznvsh))]
 pub(crate) fn cznvsh(sreg: u8, C: bool, Z: bool, N: bool, V: bool, H: bool) -> u8
     ensures { result ≡ cznvsh sreg C Z N «V» H }
 {

@@ -1,11 +1,11 @@
 -- One turn of the loop is that of proofs/Turns.
-use Rattle.std.proofs.Common.{refl, sym, ◌∙◌, rules, arith}
+use Rattle.std.proofs.Common.{sym, ◌∙◌, rules, arith}
 use Rattle.run.proofs.Unroll.{begun}
-use Rattle.run.proofs.Turns.{in_bytes, turn_spent, turn_refused, turn_stopped, turn_last, turn_on}
+use Rattle.run.proofs.Turns.{in_bytes, turn_spent, turn_refused, turn_ended, turn_on}
 use Rattle.run.proofs.over.advance.Goals as goal
 
 pub loop-program-init : goal.loop-program-init
-loop-program-init c = record { under = c.requires.1; read = c.requires.0; run = begun _ _ _ _ _; began = λ z. (refl, refl) }
+loop-program-init c = record { under = c.requires.1; read = c.requires.0; run = begun _ _ _ _ _ }
 
 pub stretch-done-requires : goal.stretch-done-requires
 stretch-done-requires c = (c.loop-program.invariant.read, c.loop-program.invariant.under)
@@ -15,18 +15,15 @@ returns-then-done-budget c = turn_spent c.requires.0 c.loop-program.invariant c.
 
 pub returns-then-refuses : goal.returns-then-refuses
 returns-then-refuses c =
-    turn_refused c.requires.0 c.loop-program.invariant c.is_some-on.ensures c.stretch-done.ensures (in_bytes λ i. search rules) (in_bytes c.type_inv.program0) (in_bytes λ i. search rules)
-    (search rules) c.whole-answer.ensures c.if-done-budget.false (sym c.refuses.ensures ∙ c.if-refuses.true)
+    rw c.into.ensures
+    (turn_refused c.requires.0 c.loop-program.invariant c.is_some-on.ensures c.stretch-done.ensures (in_bytes λ i. search rules) (in_bytes c.type_inv.program0) (in_bytes λ i. search rules)
+    (search rules) c.whole-answer.ensures c.if-done-budget.false (sym c.refuses.ensures ∙ c.if-refuses.true))
 
-pub returns-then-stops : goal.returns-then-stops
-returns-then-stops c =
-    turn_stopped c.requires.0 c.loop-program.invariant c.is_some-on.ensures c.stretch-done.ensures (in_bytes λ i. search rules) (in_bytes c.type_inv.program0) (in_bytes λ i. search rules)
-    (search rules) c.whole-answer.ensures c.if-done-budget.false (sym c.refuses.ensures ∙ c.if-refuses.false) (sym c.stops.ensures ∙ c.if-stops.true)
-
-pub returns-then-next-budget : goal.returns-then-next-budget
-returns-then-next-budget c =
-    turn_last c.requires.0 c.loop-program.invariant c.is_some-on.ensures c.stretch-done.ensures (in_bytes λ i. search rules) (in_bytes c.type_inv.program0) (in_bytes λ i. search rules)
-    (search rules) c.whole-answer.ensures c.if-done-budget.false (sym c.refuses.ensures ∙ c.if-refuses.false) (sym c.stops.ensures ∙ c.if-stops.false) c.if-next-budget.true
+pub returns-then-stops-next : goal.returns-then-stops-next
+returns-then-stops-next c =
+    rw c.into-then-stops-next.ensures
+    (turn_ended c.requires.0 c.loop-program.invariant c.is_some-on.ensures c.stretch-done.ensures (in_bytes λ i. search rules) (in_bytes c.type_inv.program0) (in_bytes λ i. search rules)
+    (search rules) c.whole-answer.ensures c.if-done-budget.false (sym c.refuses.ensures ∙ c.if-refuses.false) (rw (← c.stops.ensures) c.if-stops-next.true))
 
 pub loop-program-smaller : goal.loop-program-smaller
 loop-program-smaller c = omega (arith, c.stretch-done.ensures.onward, c.stretch-done.ensures.bounded, c.if-done-budget.false)
@@ -34,4 +31,4 @@ loop-program-smaller c = omega (arith, c.stretch-done.ensures.onward, c.stretch-
 pub loop-program-preserved : goal.loop-program-preserved
 loop-program-preserved c =
     turn_on c.requires.0 c.loop-program.invariant c.is_some-on.ensures c.stretch-done.ensures (in_bytes λ i. search rules) (in_bytes c.type_inv.program0) (in_bytes λ i. search rules)
-    (search rules) c.whole-answer.ensures c.if-done-budget.false (sym c.refuses.ensures ∙ c.if-refuses.false) (sym c.stops.ensures ∙ c.if-stops.false) c.if-next-budget.false
+    (search rules) c.whole-answer.ensures c.if-done-budget.false (sym c.refuses.ensures ∙ c.if-refuses.false) (rw (← c.stops.ensures) c.if-stops-next.false)

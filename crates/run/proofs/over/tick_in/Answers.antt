@@ -1,9 +1,7 @@
--- A wait in the last byte alone, or a run of one tick.
-use Rattle.std.proofs.Common.{◌≡◌, ◌∙◌, rules, arith}
-use Rattle.run.specs.Over.{said_by}
-use Rattle.run.proofs.Stretched.{said_busy}
+-- A wait in the last byte alone, a stretch of one tick, or a whole tick.
+use Rattle.std.proofs.Common.{rules}
 use Rattle.run.proofs.Turns.{in_bytes}
-use Rattle.run.proofs.Calls.{tick_told, tick_advanced, tick_waited, tick_waits}
+use Rattle.run.proofs.Calls.{tick_waited, tick_waits, tick_ran, tick_ran_told, tick_whole, tick_whole_told}
 use Rattle.run.proofs.over.tick_in.Goals as goal
 
 pub returns-then-last-ge32-clause-handed_back : goal.returns-then-last-ge32-clause-handed_back
@@ -12,12 +10,18 @@ returns-then-last-ge32-clause-handed_back c = let a = c.args in tick_waited a.sn
 pub returns-then-last-ge32-clause-left : goal.returns-then-last-ge32-clause-left
 returns-then-last-ge32-clause-left c = tick_waits _ _ _ _ (search rules) (in_bytes λ i. search rules) c.if-last-ge32.true
 
+pub returns-then-stretch-eq1-clause-handed_back : goal.returns-then-stretch-eq1-clause-handed_back
+returns-then-stretch-eq1-clause-handed_back c = tick_ran_told c.args.offer (search rules) c.if-last-ge32.false c.is_some.ensures c.stretch.ensures (in_bytes c.type_inv.snapshot) c.if-stretch-eq1.true
+
+pub returns-then-stretch-eq1-clause-left : goal.returns-then-stretch-eq1-clause-left
+returns-then-stretch-eq1-clause-left c = tick_ran c.args.offer (search rules) c.if-last-ge32.false c.is_some.ensures c.stretch.ensures (in_bytes c.type_inv.snapshot) c.if-stretch-eq1.true
+
 pub returns-clause-handed_back : goal.returns-clause-handed_back
 returns-clause-handed_back c =
-    let free : (said_by c.args.snapshot.now).busy ≡ 0 = said_busy c.args.snapshot.now (search rules) ∙ omega (arith, c.if-last-ge32.false) in
-    tick_told _ _ _ _ (search rules) c.advance.result c.advance.ensures free
+    tick_whole_told c.args.offer (search rules) c.if-last-ge32.false c.is_some.ensures c.stretch.ensures (in_bytes λ i. search rules) c.if-stretch-eq1.false (in_bytes c.type_inv.program)
+    (in_bytes λ i. search rules) (search rules) c.whole.ensures
 
 pub returns-clause-left : goal.returns-clause-left
 returns-clause-left c =
-    let free : (said_by c.args.snapshot.now).busy ≡ 0 = said_busy c.args.snapshot.now (search rules) ∙ omega (arith, c.if-last-ge32.false) in
-    tick_advanced _ _ _ _ (search rules) c.advance.result c.advance.ensures free
+    tick_whole c.args.offer (search rules) c.if-last-ge32.false c.is_some.ensures c.stretch.ensures (in_bytes λ i. search rules) c.if-stretch-eq1.false (in_bytes c.type_inv.program)
+    (in_bytes λ i. search rules) (search rules) c.whole.ensures

@@ -1,0 +1,2 @@
+-- `Wraps`: two sums or two differences that wrap are one.
+pub mod Wraps
