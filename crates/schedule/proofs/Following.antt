@@ -14,7 +14,7 @@ use Rattle.basis.proofs.Choice.{clash, test}
 use Rattle.snapshot.specs.Snapshot.{read_of}
 use Rattle.std.specs.Prelude.{None, Result, Ok, Err}
 use Rattle.snapshot.specs.declared.Unreadable.{Unreadable}
-use Rattle.run.specs.Over.{passed, over_of, said_run, said_count, run_over, run_in, RunsIn}
+use Rattle.run.specs.Over.{passed, over_of, said_run as said_answer, said_count, run_over, run_in, RunsIn}
 use Rattle.run.specs.declared.over.Over.{Over}
 use Rattle.schedule.specs.Schedule.{Record, record_at, records_from, records_of, rising, Scheduled, stopped, scheduled, numbers_of}
 use Rattle.schedule.specs.Follow.{told, rest_from, said_run, Serves, Follows}
@@ -144,7 +144,7 @@ module _ {s₀ p m₀ l : List ℕ} {from b : ℕ} {k s m e : List ℕ} {i done 
 -- ---- no record is left, and what is left of the budget is run with no offer
 module _ {s₀ p m₀ l : List ℕ} {from b : ℕ} {k s m e : List ℕ} {i done : ℕ} (z : Stands s₀ p m₀ l from b k s m e i done) (end : length l / 5 ≤ i) (bp : Bytes p)
     {r : Result Over Unreadable} {x : Over} {s' m' : List ℕ} (is : r ≡ Ok x) (back : r ≡ passed (read_of s).refusal (over_of (run_over (b - done) s p m None)))
-    (w : RunsIn (run_in s p m None (b - done)) (said_run r) (said_count r) s' m') where
+    (w : RunsIn (run_in s p m None (b - done)) (said_answer r) (said_count r) s' m') where
   abbrev quiet : Quiet
   quiet = handed s p m (b - done) z.read z.snapshot_bytes bp z.data_bytes is back w
 

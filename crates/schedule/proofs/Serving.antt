@@ -18,7 +18,7 @@ use Rattle.snapshot.proofs.RoundTrips.{reading_undoes_writing}
 use Rattle.run.specs.declared.Ended.TheVariants as end
 use Rattle.run.specs.declared.over.Over.{Over}
 use Rattle.run.specs.Run.{Run, ran, run_of, ended_number, ended_of}
-use Rattle.run.specs.Over.{said_by, passed, over_of, said_run, said_count, run_over, run_in, RunsIn}
+use Rattle.run.specs.Over.{said_by, passed, over_of, said_run as said_answer, said_count, run_over, run_in, RunsIn}
 use Rattle.run.proofs.Ends.{ends_have_their_numbers}
 use Rattle.run.proofs.Unroll.{step}
 use Rattle.run.proofs.Stretched.{long}
@@ -67,7 +67,7 @@ same_ok h = cc
 
 -- by what the code hands back
 abbrev pub handed : (s p m : List ℕ) (u : ℕ) {s' m' : List ℕ} {r : Result Over Unreadable} {x : Over} → (read_of s).refusal ≡ 0 → Bytes s → Bytes p → Bytes m → r ≡ Ok x
-    → r ≡ passed (read_of s).refusal (over_of (run_over u s p m None)) → RunsIn (run_in s p m None u) (said_run r) (said_count r) s' m' → Quiet
+    → r ≡ passed (read_of s).refusal (over_of (run_over u s p m None)) → RunsIn (run_in s p m None u) (said_answer r) (said_count r) s' m' → Quiet
 handed s p m u {s'} {m'} {r} {x} read bs bp bm is back runs =
     record {
       u = u;
@@ -82,7 +82,7 @@ handed s p m u {s'} {m'} {r} {x} read bs bp bm is back runs =
       program_bytes = bp;
       data_bytes = bm;
       over = same_ok (sym is ∙ back ∙ passed_is read);
-      runs = subst (λ (z : Result Over Unreadable). RunsIn (run_in s p m None u) (said_run z) (said_count z) s' m') is runs;
+      runs = subst (λ (z : Result Over Unreadable). RunsIn (run_in s p m None u) (said_answer z) (said_count z) s' m') is runs;
     }
 
 module _ (Q : Quiet) where
@@ -175,7 +175,7 @@ module _ (tick done b : ℕ) where
 
 -- ---- a record
 module _ (s p m : List ℕ) {u : ℕ} {s' m' : List ℕ} {r : Result Over Unreadable} {x : Over} (read : (read_of s).refusal ≡ 0) (bs : Bytes s) (bp : Bytes p) (bm : Bytes m)
-    (is : r ≡ Ok x) (back : r ≡ passed (read_of s).refusal (over_of (run_over u s p m None))) (runs : RunsIn (run_in s p m None u) (said_run r) (said_count r) s' m')
+    (is : r ≡ Ok x) (back : r ≡ passed (read_of s).refusal (over_of (run_over u s p m None))) (runs : RunsIn (run_in s p m None u) (said_answer r) (said_count r) s' m')
     (d : Record) (done b : ℕ) (low : done ≤ b) (many : u ≡ until_of d.tick done b) where
   abbrev Q : Quiet
   Q = handed s p m u read bs bp bm is back runs
