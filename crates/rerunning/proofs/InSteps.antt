@@ -16,7 +16,8 @@ use Rattle.snapshot.proofs.RoundTrips.{written, reading_undoes_writing}
 use Rattle.run.specs.Over.{said_by}
 use Rattle.run.proofs.Stretched.{long}
 use Rattle.run.proofs.Turns.{said_sound}
-use Rattle.schedule.specs.Schedule.{Record, records_of, refusal_of, Scheduled, scheduled, ScheduleIn, schedule_from}
+use Rattle.schedule.specs.Schedule.{records_of, refusal_of, Scheduled, scheduled, ScheduleIn, schedule_from}
+use Rattle.schedule.specs.declared.list.Record.{Record}
 use Rattle.schedule.specs.Laws.{entered_of}
 use Rattle.schedule.proofs.InSteps.{runs_in_steps}
 use Rattle.intel_hex.specs.Reading as hex

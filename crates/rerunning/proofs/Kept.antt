@@ -18,7 +18,8 @@ use Rattle.std.specs.Prelude.{Some, None}
 use Rattle.invariants.specs.Instructions.{InRange}
 use Rattle.invariants.specs.Ticks.{Offered}
 use Rattle.invariants.proofs.Ticks.{ticks_stay_in_range}
-use Rattle.schedule.specs.Schedule.{Record, records_from, offered, Scheduled, scheduled}
+use Rattle.schedule.specs.Schedule.{records_from, offered, Scheduled, scheduled}
+use Rattle.schedule.specs.declared.list.Record.{Record}
 use Rattle.schedule.proofs.Steps.{by_number, step_by}
 
 -- ---- vectors of 16 bits

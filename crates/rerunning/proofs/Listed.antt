@@ -5,7 +5,8 @@ use mathlib.Core.List.{List}
 use Prim.Native.Nat.{ℕ, ◌*◌, ◌/◌}
 use native.Mathlib.Omega.{arith}
 use lib.ListN.{drop, length}
-use Rattle.schedule.specs.Schedule.{Record, records_of, refusal_of}
+use Rattle.schedule.specs.Schedule.{records_of, refusal_of}
+use Rattle.schedule.specs.declared.list.Record.{Record}
 use Rattle.schedule_text.specs.Reading.{read_of, bytes_of}
 use Rattle.schedule_text.proofs.Laws as text
 use Rattle.rerunning.proofs.Image.{drop_bytes}

@@ -9,7 +9,7 @@ use lib.Seq.{take-append_seam}
 use borrow.Author.Tests.{eq-eqb, ne_eqb}
 use Rattle.intel_hex.specs.Reading as hex
 use Rattle.intel_hex.specs.Reading.{Read}
-use Rattle.schedule.specs.Schedule.{Record}
+use Rattle.schedule.specs.declared.list.Record.{Record}
 use Rattle.schedule_text.specs.Reading.{Told, read_of, bytes_of}
 use Rattle.schedule_text.specs.Reading.{Outcome}
 use Rattle.schedule_text.proofs.Laws.{text_listed, bytes_length}

@@ -4,11 +4,13 @@ ghost use Rattle.std.specs.List.{take_while};
 ghost use Rattle.page.specs.Gains.{Gains};
 ghost use Rattle.schedule.specs.Laws.{entered_of};
 ghost use Rattle.rerunning.specs.Rerun.{fours, state_of, gone_on};
-ghost use Rattle.rerunning.specs.Lent.{lent, added};
+ghost use Rattle.rerunning.specs.Lent.{lent, added, told_by};
 
 use crate::put::{put_number, put_numbers};
 use crate::state::State;
 use page::Page;
+use run::Over;
+use schedule::Refused;
 
 // `more` are the entries that a run added, and `list` all records.
 fn put_state(page: &mut Page<'_>, state: State<'_>, more: &[u32], list: &[u8])
@@ -44,6 +46,16 @@ fn entered_in(numbers: &[u32]) -> &[u32]
     &numbers[..count_entered(numbers)]
 }
 
+// 01's number and the ticks done: a run's, or where none began the refusal's and those done before.
+fn told(run: Result<Over, Refused>, done: u32) -> (u8, u32)
+    ensures { result ≡ told_by run done }
+{
+    match run {
+        Ok(Over { ended, ticks }) => (ended.into(), ticks),
+        Err(refused) => (refused.into(), done),
+    }
+}
+
 pub(crate) fn put_run(
     page: &mut Page<'_>,
     state: State<'_>,
@@ -60,7 +72,7 @@ pub(crate) fn put_run(
     data.copy_from_slice(state.data);
     let mut numbers = [0u32; 65536];
     let left = left_of(state.entered, list);
-    let over = schedule::go_on(
+    let run = schedule::go_on(
         &mut core,
         program,
         data,
@@ -69,10 +81,11 @@ pub(crate) fn put_run(
         budget,
         &mut numbers,
     );
+    let (answer, done) = told(run, state.done);
     page.put_byte(0);
-    page.put_byte(over.answer);
+    page.put_byte(answer);
     let after = State {
-        done: over.ticks,
+        done,
         core: &core,
         entered: state.entered,
         data,

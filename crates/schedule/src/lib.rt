@@ -22,7 +22,7 @@ use run::{Ended, Over, Ran};
 mod follow;
 mod list;
 
-pub use list::Unlisted;
+pub use list::{Record, Unlisted};
 
 // Why nothing is run: by the snapshot, then by the list.
 #[derive(Clone, Copy, Debug, PartialEq, Eq)]

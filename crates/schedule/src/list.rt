@@ -4,7 +4,7 @@ ghost use Rattle.schedule.specs.Schedule.{record_at, rising, refusal_of, unliste
 
 // The number of a tick, and a vector.
 #[derive(Clone, Copy)]
-pub(crate) struct Record {
+pub struct Record {
     pub tick: u32,
     pub vector: u16,
 }

@@ -13,7 +13,8 @@ use borrow.Author.Tests.{eqb-true, eq-eqb, lt-ltb, le-ltb}
 use Rattle.basis.specs.Bytes.{Bytes}
 use Rattle.basis.proofs.Choice.{cases}
 use Rattle.hex_line.specs.Line.{lines_of}
-use Rattle.schedule.specs.Schedule.{Record, record_at, records_from, records_of, rising}
+use Rattle.schedule.specs.Schedule.{record_at, records_from, records_of, rising}
+use Rattle.schedule.specs.declared.list.Record.{Record}
 use Rattle.schedule_text.specs.Reading.{Said}
 use Rattle.schedule_text.specs.Reading.{Nothing, Wrong, Firing}
 use Rattle.schedule_text.specs.Reading.{line_of, fault_of, Told, told, behind, read_from, read_of, five_of, bytes_of}

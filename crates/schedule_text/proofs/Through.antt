@@ -10,7 +10,7 @@ use lib.ListN.{length, drop, length-append, length-drop}
 use lib.Seq.{sets, sets-eq, take_at, drop_at, drop-drop, append_snoc}
 use Rattle.hex_line.specs.Line.{lines_of}
 use Rattle.hex_line.proofs.Found.{few_lines}
-use Rattle.schedule.specs.Schedule.{Record}
+use Rattle.schedule.specs.declared.list.Record.{Record}
 use Rattle.std.specs.Prelude.{None, Some, Ok, Err}
 use Rattle.schedule_text.specs.declared.line.Firing.{Firing as Fired}
 use Rattle.schedule_text.specs.Reading.{line_of, Told, told, read_from, read_of, five_of, bytes_of, outcome_of, list_of}

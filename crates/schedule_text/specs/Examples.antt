@@ -1,7 +1,7 @@
 -- Small texts and what is read from them, computed in proofs/Examples.antt.
 use Rattle.std.specs.Prelude.{◌≡◌, ◌++◌, ℕ}
 use Rattle.basis.specs.Text.{text, line}
-use Rattle.schedule.specs.Schedule.{Record}
+use Rattle.schedule.specs.declared.list.Record.{Record}
 use Rattle.schedule_text.specs.Reading.{read_of, told, behind}
 
 abbrev firing : ℕ → ℕ → Record

@@ -1,7 +1,8 @@
 -- What is known of the records of a text, wherever it is cut: a scheduled run takes them, and reads from their bytes the records that the text says.
 -- t is a text, `room` a number of records, k how many of the first are left out.
 use Rattle.std.specs.Prelude.{◌≡◌, List, ℕ, ◌≤◌, drop, length}
-use Rattle.schedule.specs.Schedule.{Record, records_of, refusal_of}
+use Rattle.schedule.specs.Schedule.{records_of, refusal_of}
+use Rattle.schedule.specs.declared.list.Record.{Record}
 use Rattle.schedule_text.specs.Reading.{read_of, bytes_of}
 
 -- of the records from number k on

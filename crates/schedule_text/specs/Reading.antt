@@ -4,7 +4,7 @@
 use Rattle.std.specs.Prelude.{Bool, true, false, ◌&&◌, ◌||◌, List, [], ◌∷◌, ◌++◌, ℕ, zero, suc, ◌+◌, ◌*◌, ◌-◌, ◌/◌, ◌%◌, eqb, ltb, leb, drop, length}
 use Rattle.basis.specs.Pick.{pick}
 use Rattle.hex_line.specs.Line.{lines_of}
-use Rattle.schedule.specs.Schedule.{Record}
+use Rattle.schedule.specs.declared.list.Record.{Record}
 use Rattle.std.specs.Prelude.{Result, Ok, Err}
 use Rattle.schedule_text.specs.declared.Fault.{Fault}
 use Rattle.schedule_text.specs.declared.Fault.TheVariants.{Form, Tick, Order, Vector, Room}
