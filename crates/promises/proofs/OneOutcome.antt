@@ -14,6 +14,7 @@ use Rattle.tick.specs.declared.Answer.{Answer}
 use Rattle.tick.specs.declared.Ticked.{Ticked}
 use Rattle.run.specs.declared.Ran.{Ran}
 use Rattle.run.specs.declared.Ended.{Ended}
+use Rattle.page.specs.Page.{Page}
 use Rattle.std.specs.Prelude.{Result, Ok, Err, ⊤, ◌==◌}
 use Rattle.basis.specs.Pick.{pick}
 use Rattle.cores.specs.declared.NoRegister.{NoRegister}
@@ -226,13 +227,17 @@ one_outcome =
       writes_hex = writes_hex;
       reads_schedule = reads_schedule;
       yields = λ d x y e f. equation e f;
-      ticks_in = λ o n x y e f. two (equation e.snapshot f.snapshot) (equation e.bytes f.bytes);
-      runs_in = λ o a n x y e f. two (equation e.snapshot f.snapshot) (equation e.bytes f.bytes);
-      writes = λ w x y e f. two (said_write_once x.0 y.0 (equation e.refusal f.refusal)) (equation e.bytes f.bytes);
+      ticks_in = λ o x y e f. three (equation e.number f.number) (equation e.snapshot f.snapshot) (equation e.bytes f.bytes);
+      runs_in = λ o x y e f. four (equation e.answer f.answer) (equation e.count f.count) (equation e.snapshot f.snapshot) (equation e.bytes f.bytes);
+      ticks_left = λ o n x y e f. two (equation e.snapshot f.snapshot) (equation e.bytes f.bytes);
+      runs_left = λ o a n x y e f. two (equation e.snapshot f.snapshot) (equation e.bytes f.bytes);
+      writes = λ w x y e f. two (equation e.refusal f.refusal) (equation e.bytes f.bytes);
+      writes_said = λ w x y e f. two (said_write_once x.0 y.0 (equation e.refusal f.refusal)) (equation e.bytes f.bytes);
       tells = λ o x y e f. three (equation e.number f.number) (equation e.snapshot f.snapshot) (equation e.bytes f.bytes);
       tells_ticks =
           λ o x y e f. four (equation e.number f.number) (equation e.snapshot f.snapshot) (equation e.bytes f.bytes) (equation e.ticks f.ticks);
       prints = λ t o x y e f. two (equation e.count f.count) (equation e.bytes f.bytes);
+      puts = λ g t x y e f. let same = equation e.is f.is in two (ap (λ (h : Page). h.at) same) (ap (λ (h : Page). h.bytes) same);
       gains = λ g t x y e f. (equation e.same f.same, equation e.puts.is f.puts.is);
       nothing = λ x y e f. refl;
     }

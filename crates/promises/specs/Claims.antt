@@ -4,6 +4,7 @@ use Rattle.instruction.specs.Fields.{FieldsInRange, SecondWordAlone}
 use Rattle.invariants.specs.Instructions.{InstructionsStayInRange, InstructionsWaitAtMost3, OtherRegistersKept, RegisterOnlyKeepsTheRest, OnlyRetiAndSeiTouchTheFlags}
 use Rattle.invariants.specs.Ticks.{TicksAnswerTickNumbers}
 use Rattle.run.specs.Run.{EndsHaveTheirNumbers}
+use Rattle.schedule.specs.Schedule.{ListsRefusedByNumber, StartsRefusedByNumber}
 use Rattle.source.specs.Bench.{BenchOnTheRust, FreshCoresAreSound}
 use Rattle.table.specs.Calls.{TickCallsWriteTheNextCore, RunCallsWriteTheLastCore}
 use Rattle.tracing.specs.Trace.{Example, WholeTrace, CutTrace}
@@ -25,6 +26,9 @@ pub record Claims : Type 0 where
   pub run_call_writes : RunCallsWriteTheLastCore
   -- crates/run/specs/Run.antt: how a run ended, as the code says it, has the number that it answers with
   pub ends_numbered : EndsHaveTheirNumbers
+  -- crates/schedule/specs/Schedule.antt: why a list is not run, as the code says it, has the number of the check that refused
+  pub lists_refused : ListsRefusedByNumber
+  pub starts_refused : StartsRefusedByNumber
   -- crates/tracing/specs/Trace.antt: 01's example; that the program's buffers cut off no trace, and no input that counts
   pub trace_example : Example
   pub whole_trace : WholeTrace

@@ -33,7 +33,7 @@ use Rattle.intel_hex.specs.Writing as writing
 use Rattle.schedule_text.specs.declared.Refused.{Refused}
 use Rattle.schedule_text.specs.Reading.{Outcome, outcome_said}
 use Rattle.page.specs.declared.Page as code
-use Rattle.page.specs.Page.{page, Prints}
+use Rattle.page.specs.Page.{Page, page, Prints, Puts}
 use Rattle.page.specs.Gains.{Gains}
 
 -- whatever meets a contract is one outcome
@@ -66,15 +66,19 @@ pub record OneOutcome : Type 1 where
   pub ticks : (t : Tick) → One (λ (x : Ticked × List ℕ). Ticks t x.0 x.1)
   pub ticks_in_place : (t : Tick) → One (λ (x : Answer × Core × List ℕ). Ticks t (in_place x.0 x.1) x.2)
   pub runs : (r : Run) → One (λ (x : Ran × List ℕ). Runs r x.0 x.1)
-  -- the bytes of each lent buffer, beside a result that an equation tells
-  pub ticks_in : (t : TickIn) (n : ℕ) → One (λ (x : List ℕ × List ℕ). TicksIn t n x.0 x.1)
-  pub runs_in : (r : RunIn) (a n : ℕ) → One (λ (x : List ℕ × List ℕ). RunsIn r a n x.0 x.1)
-  -- a refusal or a number, and the bytes of each lent buffer
-  pub writes : (w : Written) → One (λ (x : Result ⊤ Unwritable × List ℕ). Writes w (said_write x.0) x.1)
+  -- a number, or a run's answer and count, and the bytes of each lent buffer; and these bytes alone, beside a result that an equation tells
+  pub ticks_in : (t : TickIn) → One (λ (x : ℕ × List ℕ × List ℕ). TicksIn t x.0 x.1 x.2)
+  pub runs_in : (r : RunIn) → One (λ (x : ℕ × ℕ × List ℕ × List ℕ). RunsIn r x.0 x.1 x.2 x.3)
+  pub ticks_left : (t : TickIn) (n : ℕ) → One (λ (x : List ℕ × List ℕ). TicksIn t n x.0 x.1)
+  pub runs_left : (r : RunIn) (a n : ℕ) → One (λ (x : List ℕ × List ℕ). RunsIn r a n x.0 x.1)
+  -- a refusal's number, or the refusal, and the bytes of a lent buffer
+  pub writes : (w : Written) → One (λ (x : ℕ × List ℕ). Writes w x.0 x.1)
+  pub writes_said : (w : Written) → One (λ (x : Result ⊤ Unwritable × List ℕ). Writes w (said_write x.0) x.1)
   pub tells : (t : Told) → One (λ (x : ℕ × List ℕ × List ℕ). Tells t x.0 x.1 x.2)
   pub tells_ticks : (t : ToldTicks) → One (λ (x : ℕ × List ℕ × List ℕ × ℕ). TellsTicks t x.0 x.1 x.2 x.3)
   pub prints : (text before : List ℕ) → One (λ (x : ℕ × List ℕ). Prints text before x.0 x.1)
-  -- where a text ends, and the buffer, which is the one that was lent
+  -- where a text ends, and the buffer; of a page, also that its buffer is the one that was lent
+  pub puts : (g : Page) (text : List ℕ) → One (λ (x : ℕ × List ℕ). Puts g text (page x.1 x.0))
   pub gains : (g : code.Page) (text : List ℕ) (x y : code.Page) → Gains g text x → Gains g text y → (x.out.ghost_name ≡ y.out.ghost_name) × (page x.out.now x.at ≡ page y.out.now y.at)
   -- a function that hands nothing back and is lent nothing to change, whose contract is a fact of its arguments
   pub nothing : One (λ (x : Unit {0}). Unit {0})

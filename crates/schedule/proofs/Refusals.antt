@@ -8,7 +8,7 @@ use Rattle.run.proofs.Calls.{ok_or}
 use Rattle.cores.specs.declared.Core.{Core}
 use Rattle.snapshot.specs.Snapshot.{SnapshotRead, core_of, refused_read, said_read, read_of}
 use Rattle.run.specs.Over.{unreadable_of}
-use Rattle.schedule.specs.Schedule.{records_of, rising, refusal_of, refusal_in, said_check, unlisted_of, listed, refused_number, started}
+use Rattle.schedule.specs.Schedule.{records_of, rising, refusal_of, refusal_in, said_check, unlisted_of, listed, refused_number, started, unlisted_number, ListsRefusedByNumber, StartsRefusedByNumber}
 use Rattle.schedule.specs.declared.list.Unlisted.{Unlisted}
 use Rattle.schedule.specs.declared.Refused.{Refused}
 use Rattle.schedule.specs.declared.Refused.TheVariants as refused
@@ -65,3 +65,26 @@ started_refused s l room x h =
       ap refused_number is
           ∙ numbered (eqb (length s) 38) (ltb 4 (get_or s 37 0 / 32)) (eqb (get_or s 37 0 % 4) 0) (eqb (length l % 5) 0) (rising 0 (records_of l)) (ltb room (length l / 5)) (core_of s) some,
     )
+
+pub starts_refused_by_number : StartsRefusedByNumber
+starts_refused_by_number s l room x e h = (started_refused s l room x h).1
+
+-- ---- and the list's alone, by its three tests
+abbrev unlisted_or : {A : Type 0} → Unlisted → Result A Unlisted → Unlisted
+unlisted_or d (Ok x) = d
+unlisted_or d (Err e) = e
+
+listed_err : {A : Type 0} (n : ℕ) (x : A) {e : Unlisted} → Err e ≡ listed n x → (n ≡ 0 → ⊥) × (e ≡ unlisted_of n)
+listed_err zero x h = clash (sym (ap is_ok h))
+listed_err {A} (suc n) x {e} h = let f = ne_eqb (suc n) 0 (λ z. omega (arith, z)) in (λ z. omega (arith, z), rw f at (ap (unlisted_or {A = A} e) h))
+
+unlisted_numbered : (a b c : Bool) → (let n : ℕ = pick a (pick b (pick c 32 0) 31) 30 in (n ≡ 0 → ⊥) → unlisted_number (unlisted_of n) ≡ n)
+unlisted_numbered false b c h = refl
+unlisted_numbered true false c h = refl
+unlisted_numbered true true true h = refl
+unlisted_numbered true true false h = absurd (h refl)
+
+pub lists_refused_by_number : ListsRefusedByNumber
+lists_refused_by_number l room x e h =
+    let (some, is) = listed_err (refusal_of l room) x h in
+    ap unlisted_number is ∙ unlisted_numbered (eqb (length l % 5) 0) (rising 0 (records_of l)) (ltb room (length l / 5)) some

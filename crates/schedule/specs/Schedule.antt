@@ -1,7 +1,7 @@
 -- 02, W5: "Field staff give us the ticks at which the sample timer fired. We want a run driven by such a list."
 -- l are the bytes of a list, i is the number of a record, from 0, d a record, ds are records, in a run those not yet entered; k is a core, p a program, m the bytes of data, s the bytes of a
 -- snapshot, e the numbers lent for output, t what a tick gives, r what a run gives, x what a scheduled run gives, n a number of 01's table or 02's.
-use Rattle.std.specs.Prelude.{Bool, true, false, ◌&&◌, ◌||◌, List, [], ◌∷◌, ◌++◌, ℕ, zero, suc, ◌+◌, ◌*◌, ◌/◌, ◌%◌, eqb, leb, ltb, get_or, drop, length, replicate, Result, Ok, Err, ◌==◌}
+use Rattle.std.specs.Prelude.{◌≡◌, Bool, true, false, ◌&&◌, ◌||◌, List, [], ◌∷◌, ◌++◌, ℕ, zero, suc, ◌+◌, ◌*◌, ◌/◌, ◌%◌, eqb, leb, ltb, get_or, drop, length, replicate, Result, Ok, Err, ◌==◌}
 use Rattle.basis.specs.Pick.{pick}
 use Rattle.cores.specs.declared.Core.{Core}
 use Rattle.tick.specs.Tick.{number_of, refuses, stops, tick_of}
@@ -150,6 +150,13 @@ started n x = pick (n == 0) (Ok x) (Err (pick (leb 30 n) (refused.Unlisted (unli
 
 abbrev pub over_of : RunIn → Over
 over_of r = record { ended = ended_of r.answer; ticks = r.count }
+
+-- ---- the theorems, proved in proofs/Refusals.antt: what the code names as the reason has the number of the check that refused
+abbrev pub ListsRefusedByNumber : Type 0
+ListsRefusedByNumber = (l : List ℕ) (room : ℕ) (x : Ran) (e : Unlisted) → Err e ≡ listed (refusal_of l room) x → unlisted_number e ≡ refusal_of l room
+
+abbrev pub StartsRefusedByNumber : Type 0
+StartsRefusedByNumber = (s l : List ℕ) (room : ℕ) (x : Over) (e : Refused) → Err e ≡ started (refusal_in s l room) x → refused_number e ≡ refusal_in s l room
 
 -- the numbers of the checks, 7 to 9 and 30 to 32, which no run answers
 abbrev pub of_check : ℕ → Bool
