@@ -114,7 +114,7 @@ encodes = once said told back
     back (Err refusal.NoEncoding) = refl
 
 -- a HEX line's fault by its number, 55 being the last
-fault_of : ℕ → LineFault
+abbrev fault_of : ℕ → LineFault
 fault_of n =
     pick (n == 50) fault.Character (pick (n == 51) fault.Length (pick (n == 52) fault.Sum (pick (n == 53) fault.Kind (pick (n == 54) fault.Outside fault.Falls))))
 
