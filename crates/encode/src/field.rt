@@ -1,24 +1,29 @@
-// The fields that not every number is inside of, as words.
+// The fields that not every number fits, as words.
 ghost use Rattle.std.specs.Prelude.{◌≡◌, ◌&&◌, ◌%◌, eqb, ltb, leb};
 ghost use Rattle.encode.specs.Encode.{field_of, is_offset7, is_offset12};
 
 use crate::Refusal;
 use std::ops::Range;
 
-// R0 to R31; R16 to R31; R16 to R23; and R24 to R31, of which ADIW and SBIW name the pairs.
+// R0 to R31.
 pub(crate) const REGISTERS: Range<u8> = 0..32;
 
+// R16 to R31.
 pub(crate) const HIGH: Range<u8> = 16..32;
 
+// R16 to R23.
 pub(crate) const LOW: Range<u8> = 16..24;
 
+// R24 to R31, of which ADIW and SBIW name the pairs.
 pub(crate) const LAST: Range<u8> = 24..32;
 
-// Bits of a byte; numbers of five bits, and of six.
+// The bits of a byte.
 pub(crate) const BITS: Range<u8> = 0..8;
 
+// Numbers of five bits.
 pub(crate) const FIVE: Range<u8> = 0..32;
 
+// Numbers of six bits.
 pub(crate) const SIX: Range<u8> = 0..64;
 
 pub(crate) fn within(field: Range<u8>, x: u8) -> Result<u16, Refusal>
