@@ -12,7 +12,7 @@ mod job;
 mod line;
 mod lines;
 
-// The text into `out`, as far as it fits; how many bytes that is.
+// The text into `out`, as far as it fits; how many bytes that is. `list` and `rerun` are such three lines too: one function for all would take a closure, and say what is put by its clause.
 pub fn trace(input: &[u8], out: &mut [u8]) -> usize
     ensures { Prints (trace_of input.now) out.old result out.new }
 {
