@@ -14,7 +14,7 @@ mod settling;
 
 pub use over::{Over, run_in, tick_in};
 
-// How a run ended.
+// How a run ended. A refusal's number is the answer's that it ended with, which may be any.
 #[derive(Clone, Copy, Debug, PartialEq, Eq)]
 pub enum Ended {
     Budget,
