@@ -13,6 +13,7 @@ pub fn check(text: &[u8], size: usize) -> Result<(), ReadError>
     let mut lines = Lines::of(text);
     let mut end: usize = 0;
     let mut number: usize = 1;
+    // no `for`: the line behind an end record is asked for in the loop
     while let Some(line) = lines.next() {
         if let Err(fault) = fault(line, size, end) {
             return Err(ReadError::Fault {
