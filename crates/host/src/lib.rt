@@ -23,10 +23,7 @@ pub fn avr_tick(snapshot: &mut [u8], program: &[u8], data: &mut [u8], offer: u32
     if offer > 65536 {
         return 10;
     }
-    match run::tick_in(snapshot, program, data, offer_of(offer)) {
-        Ok(answer) => tick::number(answer) as u32,
-        Err(refusal) => u8::from(refusal) as u32,
-    }
+    run::tick_number_in(snapshot, program, data, offer_of(offer)) as u32
 }
 
 // What `avr_tick` would return, by the same checks. Every slice is only read.

@@ -1,6 +1,6 @@
 -- The calls over a snapshot: refused by a check, and passed on.
 -- Assumes nothing.
-use Rattle.std.proofs.Common.{◌≡◌, ℕ, zero, suc, ◌+◌, ◌-◌, ◌*◌, ◌/◌, ◌%◌, ◌<◌, ◌≤◌, Bool, true, false, not, eqb, ltb, List, [], ◌∷◌, length, get_or, set, sym, refl, ap, ◌∙◌, inl, inr, is_some, ◌⊎◌, arith, eq-eqb, le-leb, Result, Ok, Err, IsOk}
+use Rattle.std.proofs.Common.{◌≡◌, ℕ, zero, suc, ◌+◌, ◌-◌, ◌*◌, ◌/◌, ◌%◌, ◌<◌, ◌≤◌, Bool, true, false, not, eqb, ltb, List, [], ◌∷◌, length, get_or, set, sym, refl, ap, ◌∙◌, inl, inr, arith, eq-eqb, le-leb, Result, Ok, Err, IsOk}
 use borrow.Author.Tests.{lt-leb}
 use Rattle.basis.specs.Pick.{pick}
 use Rattle.basis.specs.Bit.{one}
@@ -11,21 +11,24 @@ use Rattle.cores.specs.State.{with_busy}
 use Rattle.tick.specs.Tick.{Tick, number_of, refuses, stops, tick_of}
 use Rattle.tick.specs.Offer.{Offer}
 use Rattle.tick.specs.declared.Answer.{Answer}
-use Rattle.tick.specs.declared.Answer.TheVariants.{Waited, Ran}
+use Rattle.tick.specs.declared.Answer.TheVariants.{Waited}
 use Rattle.tick.proofs.Steps.{busy_tick}
-use Rattle.invariants.specs.Ticks.{Offered, TickNumber}
+use Rattle.invariants.specs.Ticks.{TickNumber}
 use Rattle.invariants.proofs.Ticks.{ticks_answer_tick_numbers}
 use Rattle.snapshot.specs.declared.Unreadable.{Unreadable}
 use Rattle.snapshot.specs.declared.Unreadable.TheVariants.{Length, Busy, Spare}
 use Rattle.snapshot.specs.Snapshot.{bytes_of, core_of, said_read, refused_read, read_of, write_of}
 use Rattle.snapshot.proofs.RoundTrips.{at_tail, bytes_back, written, writing_undoes_reading}
-use Rattle.run.specs.Run.{Run, spent, ran, run_of}
-use Rattle.run.specs.Over.{said_by, tick_over, TickedOver, Stretches, run_over, tick_in, TicksIn, passed, over_of, run_in, RunsIn, of_check}
+use Rattle.run.specs.Run.{Run, spent, ran, run_of, ended_number, ended_of}
+use Rattle.run.specs.Over.{said_by, tick_over, TickedOver, run_over, last_number, Advances, tick_in, TicksIn, passed, over_of, run_in, RunsIn, of_check}
+use Rattle.run.specs.declared.Ended.{Ended}
 use Rattle.run.specs.declared.Ended.TheVariants.{Budget}
-use Rattle.run.proofs.Unroll.{step, begun, unroll_spent}
+use Rattle.run.specs.declared.over.Last.{Last}
+use Rattle.run.proofs.Ends.{ends_have_their_numbers}
+use Rattle.run.proofs.Unroll.{step}
 use Rattle.run.proofs.Six.{stored}
 use Rattle.run.proofs.Stretched.{long, brief, said_busy}
-use Rattle.run.proofs.Turns.{said_sound, next_into}
+use Rattle.run.proofs.Turns.{said_sound}
 
 -- core and data of a run of one tick are the tick's
 step_one : (r s : Bool) (t : Tick) → ((step r s t (spent t.core t.bytes)).core ≡ t.core) × ((step r s t (spent t.core t.bytes)).bytes ≡ t.bytes)
@@ -61,6 +64,22 @@ module _ (s p m : List ℕ) (o : Offer) where
     pub tick_passed : {n : ℕ} {s' m' : List ℕ} → n ≡ number_of (tick_over s p m o).answer → s' ≡ (write_of (tick_over s p m o).core s).bytes → m' ≡ (tick_over s p m o).bytes
         → TicksIn (tick_in s p m o) n s' m'
     tick_passed e f g = rw (eq-eqb (read_of s).refusal 0 h) (record { number = e; snapshot = f; bytes = g })
+
+    -- a run of one tick of a core that does not wait
+    pub tick_advanced : {x : Last} {s' m' : List ℕ} → Advances s p m o 1 x s' m' → get_or s 37 0 < 32 → TicksIn (tick_in s p m o) x.answer s' m'
+    tick_advanced w l =
+        let e = one_tick (said_by s) p m o in
+        tick_passed (w.one refl (said_busy s h ∙ omega (arith, l))) (w.snapshot ∙ ap (λ (k : Core). (write_of k s).bytes) e.0) (w.bytes ∙ e.1)
+
+    -- a run, as the code hands it back
+    module _ {b : ℕ} {x : Last} {e : Ended} {s' m' : List ℕ} (w : Advances s p m o b x s' m') (is : e ≡ ended_of (last_number x.answer)) where
+      pub run_passed : RunsIn (run_in s p m o b) (ended_number e) x.ticks s' m'
+      run_passed =
+          rw (eq-eqb (read_of s).refusal 0 h)
+          (record { answer = ap ended_number is ∙ ends_have_their_numbers (last_number x.answer) ∙ w.answer; count = w.count; snapshot = w.snapshot; bytes = w.bytes })
+
+      pub run_told : Ok (record { ended = e; ticks = x.ticks }) ≡ passed (read_of s).refusal (over_of (run_over b s p m o))
+      run_told = told_as h (rw (is, w.answer, w.count))
 
     -- a run of no tick, as the code hands it back
     pub run_none_told : Ok (record { ended = Budget; ticks = 0 }) ≡ passed (read_of s).refusal (over_of (run_over 0 s p m o))
@@ -113,45 +132,13 @@ module _ (s p m : List ℕ) (o : Offer) (h : (read_of s).refusal ≡ 0) (bs : By
       ∙ sym (ap (λ x. (write_of x.core s).bytes) t))
       (sym (ap (λ x. x.bytes) t))
 
--- ---- no wait: a stretch of at most one tick, and where that did nothing a whole one
-module _ {s p m s' m' : List ℕ} (o : Offer) {on : Bool} {n : ℕ} (h : (read_of s).refusal ≡ 0) (w : get_or s 37 0 < 32) (e : on ≡ is_some o)
-    (c : Stretches s p m on 0 1 n s' m') (bs : Bytes s') where
-  first : ((n ≡ 0) × ((said_by s' ≡ said_by s) × (m' ≡ m))) ⊎ ((0 < n) × ((tick_over s p m o).answer ≡ Ran))
-  first = c.first o (sym e) (said_busy s h ∙ omega (arith, w))
+-- ---- no wait: a whole tick
+module _ {s p m s' m' : List ℕ} (o : Offer) (h : (read_of s).refusal ≡ 0) {a : Answer} (t : TickedOver s p m o a s' m') where
+  pub tick_whole : TicksIn (tick_in s p m o) (number_of a) s' m'
+  tick_whole = tick_passed s p m o h (ap number_of t.answer) t.snapshot t.bytes
 
-  module _ (l : n ≡ 1) where
-    ran_answer : (tick_over s p m o).answer ≡ Ran
-    ran_answer = elim first [ inl u ↦ absurd (omega (arith, l, u.0)) | inr u ↦ u.1 ]
-
-    spent_one : run_over 1 s p m o ≡ record { answer = 24; count = n; core = said_by s'; bytes = m' }
-    spent_one = begun 1 (said_by s) p m o ∙ c.rest o (sym e) ∙ unroll_spent 1 n (said_by s') p m' o (omega (arith, l))
-
-    pub tick_ran : TicksIn (tick_in s p m o) 18 s' m'
-    tick_ran =
-        let k = one_tick (said_by s) p m o in
-        tick_passed s p m o h (sym (ap number_of ran_answer))
-        (sym (ap (λ w. w.bytes) (writing_undoes_reading s' s bs c.read (long s h))) ∙ ap (λ (k : Core). (write_of k s).bytes) (sym (ap (λ r. r.core) spent_one) ∙ k.0))
-        (sym (ap (λ r. r.bytes) spent_one) ∙ k.1)
-
-    pub tick_ran_told : Ok Ran ≡ passed (read_of s).refusal (tick_over s p m o).answer
-    tick_ran_told = told_as h (sym ran_answer)
-
-  module _ (l : n ≡ 1 → ⊥) (bp : Bytes p) (bm : Bytes m') (f : Offered o) {a : Answer} {s'' m'' : List ℕ} (t : TickedOver s' p m' o a s'' m'') where
-    same : tick_over s' p m' o ≡ tick_over s p m o
-    same =
-        elim first [
-          | inl u ↦ ap (λ (k : Core). tick_of k p m' o) u.1.0 ∙ ap (λ (x : List ℕ). tick_of (said_by s) p x o) u.1.1
-          | inr u ↦ absurd (omega (arith, l, u.0, c.bounded))
-        ]
-
-    pub tick_whole : TicksIn (tick_in s p m o) (number_of a) s'' m''
-    tick_whole =
-        tick_passed s p m o h (ap number_of t.answer ∙ ap (λ x. number_of x.answer) same)
-        (next_into s' p m' o c.read bs bp bm f s (long s h) t.snapshot ∙ ap (λ (x : Tick). (write_of x.core s).bytes) same)
-        (t.bytes ∙ ap (λ x. x.bytes) same)
-
-    pub tick_whole_told : Ok a ≡ passed (read_of s).refusal (tick_over s p m o).answer
-    tick_whole_told = told_as h (t.answer ∙ ap (λ x. x.answer) same)
+  pub tick_whole_told : Ok a ≡ passed (read_of s).refusal (tick_over s p m o).answer
+  tick_whole_told = told_as h t.answer
 
 -- ---- a check's numbers and a run's
 -- a run answers 1 to 5, or 22 to 24

@@ -1,5 +1,5 @@
 -- Runs over a snapshot. s are the bytes of a snapshot, p is a program, m the bytes of data, o an offer, b a budget; s' and m' are what the code leaves of s and m.
-use Rattle.std.specs.Prelude.{◌≡◌, ℕ, ◌-◌, ◌<◌, ◌≤◌, Bool, ◌&&◌, ◌⊎◌, List, Result, Ok, Err, ◌==◌, nat_le}
+use Rattle.std.specs.Prelude.{◌≡◌, ℕ, ◌-◌, ◌<◌, ◌≤◌, Bool, ◌&&◌, ◌⊎◌, List, Result, Ok, Err, ◌==◌, nat_le, nat_lt}
 use Rattle.basis.specs.Pick.{pick}
 use Rattle.cores.specs.declared.Core.{Core}
 use Rattle.tick.specs.Tick.{Tick, number_of, tick_of}
@@ -11,6 +11,7 @@ use Rattle.snapshot.specs.declared.Unreadable.{Unreadable}
 use Rattle.snapshot.specs.declared.Unreadable.TheVariants.{Length, Busy, Spare}
 use Rattle.run.specs.Run.{Run, after, run_of, ended_number, ended_of}
 use Rattle.run.specs.Lent.{offers}
+use Rattle.run.specs.declared.over.Last.{Last}
 use Rattle.run.specs.declared.over.Over.{Over}
 
 -- the core that the bytes say, its tick and its run
@@ -41,12 +42,17 @@ pub record Stretches (s p m : List ℕ) (on : Bool) (at b done : ℕ) (s' m' : L
 abbrev pub run_over : ℕ → List ℕ → List ℕ → List ℕ → Offer → Run
 run_over b s p m o = run_of b (said_by s) p m o
 
--- a run
-pub record Advances (s p m : List ℕ) (o : Offer) (b : ℕ) (a : Over) (s' m' : List ℕ) : Type 0 where
-  pub answer : a.ended ≡ ended_of (run_over b s p m o).answer
+-- a run's number by its last tick's: "24, 22, 23 or that refusal"
+abbrev pub last_number : ℕ → ℕ
+last_number n = pick (nat_lt n 16) n (pick (n == 22) 22 (pick (n == 23) 23 24))
+
+-- a run, with the number of its last tick
+pub record Advances (s p m : List ℕ) (o : Offer) (b : ℕ) (a : Last) (s' m' : List ℕ) : Type 0 where
+  pub answer : last_number a.answer ≡ (run_over b s p m o).answer
   pub count : a.ticks ≡ (run_over b s p m o).count
   pub snapshot : s' ≡ (write_of (run_over b s p m o).core s).bytes
   pub bytes : m' ≡ (run_over b s p m o).bytes
+  pub one : b ≡ 1 → (said_by s).busy ≡ 0 → a.answer ≡ number_of (tick_over s p m o).answer
 
 -- ---- the calls: checks 7, 8 and 9 first, and "a refused call changes no core, no byte of data"
 -- the check of a number, and x where none refuses

@@ -12,7 +12,7 @@ mod over;
 mod ready;
 mod settling;
 
-pub use over::{Over, run_in, tick_in};
+pub use over::{Over, run_in, tick_in, tick_number_in};
 
 // How a run ended. A refusal's number is the answer's that it ended with, which may be any.
 #[derive(Clone, Copy, Debug, PartialEq, Eq)]

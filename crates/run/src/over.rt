@@ -2,7 +2,8 @@
 ghost use Rattle.std.specs.Prelude.{◌≡◌, ◌<◌};
 ghost use Rattle.tick.specs.Tick.{number_of};
 ghost use Rattle.snapshot.specs.Snapshot.{read_of};
-ghost use Rattle.run.specs.Over.{tick_over, TickedOver, Stretches, Advances, passed, said_tick, tick_in, TicksIn, over_of, said_run, said_count, run_over, run_in, RunsIn};
+ghost use Rattle.run.specs.Run.{ended_of};
+ghost use Rattle.run.specs.Over.{last_number, tick_over, TickedOver, Stretches, Advances, passed, said_tick, tick_in, TicksIn, over_of, said_run, said_count, run_over, run_in, RunsIn};
 
 use crate::Ended;
 use crate::go::go;
@@ -15,6 +16,13 @@ use tick::Answer;
 pub struct Over {
     pub ended: Ended,
     pub ticks: u32,
+}
+
+// The number of a run's last tick, and the ticks done.
+#[derive(Clone, Copy)]
+struct Last {
+    answer: u8,
+    ticks: u32,
 }
 
 // A whole tick, by the two operations, of which `ready` and `effect` are the short form.
@@ -76,7 +84,7 @@ fn advance(
     data: &mut [u8],
     offer: Option<u16>,
     budget: u32,
-) -> Over
+) -> Last
     requires { ((read_of snapshot.old).refusal ≡ 0) × (0 < budget) }
     ensures { Advances snapshot.old program0.now «data».old offer budget result snapshot.new «data».new }
 {
@@ -85,28 +93,42 @@ fn advance(
     let on = offer.is_some();
     let mut at: u32 = 0;
     loop {
+        // the only call of `stretch`, so that it is compiled into this loop
         let done = stretch(snapshot, program, data, on, at, budget);
         if done == budget {
-            return Over {
-                ended: Ended::Budget,
+            return Last {
+                answer: tick::number(Answer::Ran),
                 ticks: budget,
             };
         }
         let answer = whole(snapshot, program, data, offer);
+        let number = tick::number(answer);
         if tick::refuses(answer) {
-            return Over {
-                ended: answer.into(),
+            return Last {
+                answer: number,
                 ticks: done,
             };
         }
         let next = done + 1;
         if tick::stops(answer) | (next == budget) {
-            return Over {
-                ended: answer.into(),
+            return Last {
+                answer: number,
                 ticks: next,
             };
         }
         at = next;
+    }
+}
+
+// A run's end, by its last tick's number.
+fn ended(number: u8) -> Ended
+    ensures { result ≡ ended_of (last_number number) }
+{
+    match number {
+        22 => Ended::Break,
+        23 => Ended::End,
+        0..=15 => Ended::Refused(number),
+        _ => Ended::Budget,
     }
 }
 
@@ -127,7 +149,27 @@ fn check(snapshot: &[u8]) -> Result<(), Unreadable>
     Ok(())
 }
 
-// A tick. A refused call changes no byte.
+// A tick: its number, or a check's. An `Answer` in a `Result` was tried here: 191 instructions a tick against 172.
+pub fn tick_number_in(
+    snapshot: &mut [u8],
+    program: &[u8],
+    data: &mut [u8],
+    offer: Option<u16>,
+) -> u8
+    ensures { TicksIn (tick_in snapshot.old program.now «data».old offer) result snapshot.new «data».new }
+{
+    if let Err(refusal) = check(snapshot) {
+        return refusal.into();
+    }
+    let last = snapshot[37];
+    if last >= 32 {
+        snapshot[37] = last - 32;
+        return tick::number(Answer::Waited);
+    }
+    advance(snapshot, program, data, offer, 1).answer
+}
+
+// A tick, always a whole one. A refused call changes no byte.
 pub fn tick_in(
     snapshot: &mut [u8],
     program: &[u8],
@@ -142,9 +184,6 @@ pub fn tick_in(
     if last >= 32 {
         snapshot[37] = last - 32;
         return Ok(Answer::Waited);
-    }
-    if stretch(snapshot, program, data, offer.is_some(), 0, 1) == 1 {
-        return Ok(Answer::Ran);
     }
     Ok(whole(snapshot, program, data, offer))
 }
@@ -167,5 +206,9 @@ pub fn run_in(
             ticks: 0,
         });
     }
-    Ok(advance(snapshot, program, data, offer, budget))
+    let last = advance(snapshot, program, data, offer, budget);
+    Ok(Over {
+        ended: ended(last.answer),
+        ticks: last.ticks,
+    })
 }

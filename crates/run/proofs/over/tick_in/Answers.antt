@@ -1,7 +1,7 @@
--- A wait in the last byte alone, a stretch of one tick, or a whole tick.
+-- A wait in the last byte alone, or a whole tick.
 use Rattle.std.proofs.Common.{rules}
 use Rattle.run.proofs.Turns.{in_bytes}
-use Rattle.run.proofs.Calls.{tick_waited, tick_waits, tick_ran, tick_ran_told, tick_whole, tick_whole_told}
+use Rattle.run.proofs.Calls.{tick_waited, tick_waits, tick_whole, tick_whole_told}
 use Rattle.run.proofs.over.tick_in.Goals as goal
 
 pub returns-then-last-ge32-clause-handed_back : goal.returns-then-last-ge32-clause-handed_back
@@ -10,18 +10,8 @@ returns-then-last-ge32-clause-handed_back c = let a = c.args in tick_waited a.sn
 pub returns-then-last-ge32-clause-left : goal.returns-then-last-ge32-clause-left
 returns-then-last-ge32-clause-left c = tick_waits _ _ _ _ (search rules) (in_bytes λ i. search rules) c.if-last-ge32.true
 
-pub returns-then-stretch-eq1-clause-handed_back : goal.returns-then-stretch-eq1-clause-handed_back
-returns-then-stretch-eq1-clause-handed_back c = tick_ran_told c.args.offer (search rules) c.if-last-ge32.false c.is_some.ensures c.stretch.ensures (in_bytes c.type_inv.snapshot) c.if-stretch-eq1.true
-
-pub returns-then-stretch-eq1-clause-left : goal.returns-then-stretch-eq1-clause-left
-returns-then-stretch-eq1-clause-left c = tick_ran c.args.offer (search rules) c.if-last-ge32.false c.is_some.ensures c.stretch.ensures (in_bytes c.type_inv.snapshot) c.if-stretch-eq1.true
-
 pub returns-clause-handed_back : goal.returns-clause-handed_back
-returns-clause-handed_back c =
-    tick_whole_told c.args.offer (search rules) c.if-last-ge32.false c.is_some.ensures c.stretch.ensures (in_bytes λ i. search rules) c.if-stretch-eq1.false (in_bytes c.type_inv.program)
-    (in_bytes λ i. search rules) (search rules) c.whole.ensures
+returns-clause-handed_back c = tick_whole_told c.args.offer (search rules) c.whole.ensures
 
 pub returns-clause-left : goal.returns-clause-left
-returns-clause-left c =
-    tick_whole c.args.offer (search rules) c.if-last-ge32.false c.is_some.ensures c.stretch.ensures (in_bytes λ i. search rules) c.if-stretch-eq1.false (in_bytes c.type_inv.program)
-    (in_bytes λ i. search rules) (search rules) c.whole.ensures
+returns-clause-left c = tick_whole c.args.offer (search rules) c.whole.ensures
