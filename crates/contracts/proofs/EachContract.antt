@@ -10,6 +10,7 @@ use Rattle.tick.proofs.foretell.Met as foretell
 use Rattle.tick.proofs.tick.Met as tick
 use Rattle.tick.proofs.tick_in_place.Met as tick_in_place
 use Rattle.run.proofs.run.Met as run
+use Rattle.run.proofs.tick_number_in.Met as tick_number_in
 use Rattle.run.proofs.tick_in.Met as tick_in
 use Rattle.run.proofs.run_in.Met as run_in
 use Rattle.schedule.proofs.run.Met as schedule_run
@@ -56,6 +57,7 @@ contracts =
       tick = tick.met;
       tick_in_place = tick_in_place.met;
       run = run.met;
+      tick_number_in = tick_number_in.met;
       tick_in = tick_in.met;
       run_in = run_in.met;
       schedule_run = schedule_run.met;

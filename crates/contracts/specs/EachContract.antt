@@ -10,6 +10,7 @@ use Rattle.tick.proofs.foretell.Statement as foretell
 use Rattle.tick.proofs.tick.Statement as tick
 use Rattle.tick.proofs.tick_in_place.Statement as tick_in_place
 use Rattle.run.proofs.run.Statement as run
+use Rattle.run.proofs.tick_number_in.Statement as tick_number_in
 use Rattle.run.proofs.tick_in.Statement as tick_in
 use Rattle.run.proofs.run_in.Statement as run_in
 use Rattle.schedule.proofs.run.Statement as schedule_run
@@ -61,6 +62,7 @@ pub record Contracts : Type 2 where
   -- crates/run/src/lib.rt
   pub run : {M : Type 1} → run.statement M
   -- crates/run/src/over.rt
+  pub tick_number_in : {M : Type 1} → tick_number_in.statement M
   pub tick_in : {M : Type 1} → tick_in.statement M
   pub run_in : {M : Type 1} → run_in.statement M
   -- crates/schedule/src/lib.rt
