@@ -26,6 +26,8 @@ struct Last {
 }
 
 // A whole tick, by the two operations, of which `ready` and `effect` are the short form.
+// `cold`: 173.6 instructions a tick of heat_index in `avr_tick`, against 174.4
+#[cold]
 fn whole(snapshot: &mut [u8], program: &[u8], data: &mut [u8], offer: Option<u16>) -> Answer
     requires { (read_of snapshot.old).refusal ≡ 0 }
     ensures { TickedOver snapshot.old program.now «data».old offer result snapshot.new «data».new }
