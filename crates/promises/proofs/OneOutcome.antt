@@ -68,7 +68,7 @@ once says told back d x y e f = sym (back x) ∙ (ap told (equation e f) ∙ bac
 
 reads_register : (d : RegisterRead) → One (λ (x : Result ℕ NoRegister). said_register x ≡ d)
 reads_register = once said_register told back
-    where
+  where
     told : RegisterRead → Result ℕ NoRegister
     told d = pick (d.refusal == 0) (Ok d.value) (Err (record {}))
 
@@ -78,7 +78,7 @@ reads_register = once said_register told back
 
 sets_register : (k : Core) (d : RegisterSet) → One (λ (x : Result Core NoRegister). said_set k x ≡ d)
 sets_register k = once (said_set k) told back
-    where
+  where
     told : RegisterSet → Result Core NoRegister
     told d = pick (d.refusal == 0) (Ok d.core) (Err (record {}))
 
@@ -88,7 +88,7 @@ sets_register k = once (said_set k) told back
 
 lacks : (d : ℕ) → One (λ (x : Result ⊤ Lack). said_lack x ≡ d)
 lacks = once said_lack told back
-    where
+  where
     told : ℕ → Result ⊤ Lack
     told n = pick (n == 0) (Ok tt) (pick (n == 1) (Err lack.Program) (pick (n == 2) (Err lack.Room) (pick (n == 3) (Err lack.Stack) (Err lack.Data))))
 
@@ -101,7 +101,7 @@ lacks = once said_lack told back
 
 encodes : (d : Encoded) → One (λ (x : Result Words Refusal). said x ≡ d)
 encodes = once said told back
-    where
+  where
     told : Encoded → Result Words Refusal
     told d =
         pick (d.refusal == 0) (Ok (pick (d.words == 1) (words.One d.first) (words.Two d.first d.second)))
@@ -120,7 +120,7 @@ fault_of n =
 
 judges_line : (d : ℕ) → One (λ (x : Result ⊤ LineFault). number_said x ≡ d)
 judges_line = once number_said told back
-    where
+  where
     told : ℕ → Result ⊤ LineFault
     told n = pick (n == 0) (Ok tt) (Err (fault_of n))
 
@@ -135,7 +135,7 @@ judges_line = once number_said told back
 
 reads_hex : (d : Read) → One (λ (x : Result ⊤ ReadError). read_said x ≡ d)
 reads_hex = once read_said told back
-    where
+  where
     told : Read → Result ⊤ ReadError
     told d =
         pick (d.refusal == 0) (Ok tt) (Err (pick (d.refusal == 56) (unread.End d.line) (pick (d.refusal == 57) unread.TooLarge (unread.Fault d.line (fault_of d.refusal)))))
@@ -153,7 +153,7 @@ reads_hex = once read_said told back
 
 writes_hex : (d : writing.Written) → One (λ (x : Result ℕ WriteError). writing.write_said x ≡ d)
 writes_hex = once writing.write_said told back
-    where
+  where
     told : writing.Written → Result ℕ WriteError
     told d = pick (d.refusal == 0) (Ok d.length) (Err (pick (d.refusal == 57) unwritten.TooLarge unwritten.NoRoom))
 
@@ -164,7 +164,7 @@ writes_hex = once writing.write_said told back
 
 reads_schedule : (d : Outcome) → One (λ (x : Result ℕ Refused). outcome_said x ≡ d)
 reads_schedule = once outcome_said told back
-    where
+  where
     wrong_of : ℕ → Fault
     wrong_of n = pick (n == 1) wrong.Form (pick (n == 2) wrong.Tick (pick (n == 3) wrong.Order (pick (n == 4) wrong.Vector wrong.Room)))
 
