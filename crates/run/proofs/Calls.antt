@@ -20,11 +20,11 @@ use Rattle.snapshot.specs.declared.Unreadable.TheVariants.{Length, Busy, Spare}
 use Rattle.snapshot.specs.Snapshot.{bytes_of, core_of, said_read, refused_read, read_of, write_of}
 use Rattle.snapshot.proofs.RoundTrips.{at_tail, bytes_back, written, writing_undoes_reading}
 use Rattle.run.specs.Run.{Run, spent, ran, run_of, ended_number, ended_of}
-use Rattle.run.specs.Over.{said_by, tick_over, TickedOver, run_over, last_number, Advances, tick_in, TicksIn, passed, over_of, run_in, RunsIn, of_check}
+use Rattle.run.specs.Over.{said_by, tick_over, run_over, last_number, Advances, tick_in, TicksIn, answered, passed, over_of, run_in, RunsIn, of_check}
 use Rattle.run.specs.declared.Ended.{Ended}
 use Rattle.run.specs.declared.Ended.TheVariants.{Budget}
 use Rattle.run.specs.declared.over.Last.{Last}
-use Rattle.run.proofs.Ends.{ends_have_their_numbers}
+use Rattle.run.proofs.Ends.{answered_back, ends_have_their_numbers}
 use Rattle.run.proofs.Unroll.{step}
 use Rattle.run.proofs.Six.{stored}
 use Rattle.run.proofs.Stretched.{long, brief, said_busy}
@@ -70,6 +70,19 @@ module _ (s p m : List ℕ) (o : Offer) where
     tick_advanced w l =
         let e = one_tick (said_by s) p m o in
         tick_passed (w.one refl (said_busy s h ∙ omega (arith, l))) (w.snapshot ∙ ap (λ (k : Core). (write_of k s).bytes) e.0) (w.bytes ∙ e.1)
+
+    -- its answer, by that number
+    module _ {x : Last} {a : Answer} {s' m' : List ℕ} (w : Advances s p m o 1 x s' m') (l : get_or s 37 0 < 32) (by : a ≡ answered x.answer) where
+      is : a ≡ (tick_over s p m o).answer
+      is = by ∙ ap answered (w.one refl (said_busy s h ∙ omega (arith, l))) ∙ answered_back (said_by s) p m o
+
+      pub tick_answered : TicksIn (tick_in s p m o) (number_of a) s' m'
+      tick_answered =
+          let e = one_tick (said_by s) p m o in
+          tick_passed (ap number_of is) (w.snapshot ∙ ap (λ (k : Core). (write_of k s).bytes) e.0) (w.bytes ∙ e.1)
+
+      pub tick_told : Ok a ≡ passed (read_of s).refusal (tick_over s p m o).answer
+      tick_told = told_as h is
 
     -- a run, as the code hands it back
     module _ {b : ℕ} {x : Last} {e : Ended} {s' m' : List ℕ} (w : Advances s p m o b x s' m') (is : e ≡ ended_of (last_number x.answer)) where
@@ -131,14 +144,6 @@ module _ (s p m : List ℕ) (o : Offer) (h : (read_of s).refusal ≡ 0) (bs : By
       (ap (λ (l : List ℕ). set l 37 (get_or s 37 0 - 32)) (sym back) ∙ one_less ∙ sym (ap (λ x. x.bytes) (written (with_busy k b) s small (long s h)))
       ∙ sym (ap (λ x. (write_of x.core s).bytes) t))
       (sym (ap (λ x. x.bytes) t))
-
--- ---- no wait: a whole tick
-module _ {s p m s' m' : List ℕ} (o : Offer) (h : (read_of s).refusal ≡ 0) {a : Answer} (t : TickedOver s p m o a s' m') where
-  pub tick_whole : TicksIn (tick_in s p m o) (number_of a) s' m'
-  tick_whole = tick_passed s p m o h (ap number_of t.answer) t.snapshot t.bytes
-
-  pub tick_whole_told : Ok a ≡ passed (read_of s).refusal (tick_over s p m o).answer
-  tick_whole_told = told_as h t.answer
 
 -- ---- a check's numbers and a run's
 -- a run answers 1 to 5, or 22 to 24

@@ -14,7 +14,7 @@ use Rattle.tick.proofs.Steps.{every_tick, performed}
 use Rattle.run.specs.declared.Ended.{Ended}
 use Rattle.run.specs.declared.Ended.TheVariants.{Budget, Break, End, Refused}
 use Rattle.run.specs.Run.{ended_number, EndsHaveTheirNumbers}
-use Rattle.run.specs.Over.{last_number}
+use Rattle.run.specs.Over.{last_number, answered}
 
 pub ends_have_their_numbers : EndsHaveTheirNumbers
 ends_have_their_numbers n =
@@ -42,3 +42,20 @@ last_kept k p m o =
     (λ z v d l. refl)
     (λ z d l. refl)
     λ z d l r. last_done (performed decode_of k p m).done
+
+-- the number of a tick's answer gives the answer back
+answered_done : (d : Done) → answered (number_of (answer_of d)) ≡ answer_of d
+answered_done done.Ran = refl
+answered_done done.Sleep = refl
+answered_done done.Watchdog = refl
+answered_done done.Undefined = refl
+answered_done done.Break = refl
+
+pub answered_back : (k : Core) (p m : List ℕ) (o : Offer) → answered (number_of (tick_of k p m o).answer) ≡ (tick_of k p m o).answer
+answered_back k p m o =
+    every_tick decode_of (λ t. answered (number_of t.answer) ≡ t.answer) k p m o
+    (λ n g l. rw (lt-ltb n 16 (omega arith)))
+    (λ g l. refl)
+    (λ z v d l. refl)
+    (λ z d l. refl)
+    λ z d l r. answered_done (performed decode_of k p m).done

@@ -5,7 +5,7 @@ use Rattle.cores.specs.declared.Core.{Core}
 use Rattle.tick.specs.Tick.{Tick, number_of, tick_of}
 use Rattle.tick.specs.Offer.{Offer}
 use Rattle.tick.specs.declared.Answer.{Answer}
-use Rattle.tick.specs.declared.Answer.TheVariants.{Ran}
+use Rattle.tick.specs.declared.Answer.TheVariants.{Refused, Waited, Entered, Ran, Sleep, Watchdog, Undefined, Break, End}
 use Rattle.snapshot.specs.Snapshot.{read_of, write_of, unreadable_number}
 use Rattle.snapshot.specs.declared.Unreadable.{Unreadable}
 use Rattle.snapshot.specs.declared.Unreadable.TheVariants.{Length, Busy, Spare}
@@ -61,6 +61,12 @@ unreadable_of n = pick (n == 7) Length (pick (n == 8) Busy Spare)
 
 abbrev pub passed : {A : Type 0} → ℕ → A → Result A Unreadable
 passed n x = pick (n == 0) (Ok x) (Err (unreadable_of n))
+
+-- an answer by its number in 01's table
+abbrev pub answered : ℕ → Answer
+answered n =
+    pick (nat_lt n 16) (Refused n)
+    (pick (n == 16) Waited (pick (n == 17) Entered (pick (n == 18) Ran (pick (n == 19) Sleep (pick (n == 20) Watchdog (pick (n == 21) Undefined (pick (n == 22) Break End)))))))
 
 -- a tick: "The next core is written into the same snapshot; the answer's number is returned."
 pub record TickIn : Type 0 where

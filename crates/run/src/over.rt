@@ -3,7 +3,7 @@ ghost use Rattle.std.specs.Prelude.{◌≡◌, ◌<◌};
 ghost use Rattle.tick.specs.Tick.{number_of};
 ghost use Rattle.snapshot.specs.Snapshot.{read_of};
 ghost use Rattle.run.specs.Run.{ended_of};
-ghost use Rattle.run.specs.Over.{last_number, tick_over, TickedOver, Stretches, Advances, passed, said_tick, tick_in, TicksIn, over_of, said_run, said_count, run_over, run_in, RunsIn};
+ghost use Rattle.run.specs.Over.{last_number, tick_over, TickedOver, Stretches, Advances, passed, answered, said_tick, tick_in, TicksIn, over_of, said_run, said_count, run_over, run_in, RunsIn};
 
 use crate::Ended;
 use crate::go::go;
@@ -26,8 +26,6 @@ struct Last {
 }
 
 // A whole tick, by the two operations, of which `ready` and `effect` are the short form.
-// `cold`: 173.6 instructions a tick of heat_index in `avr_tick`, against 174.4
-#[cold]
 fn whole(snapshot: &mut [u8], program: &[u8], data: &mut [u8], offer: Option<u16>) -> Answer
     requires { (read_of snapshot.old).refusal ≡ 0 }
     ensures { TickedOver snapshot.old program.now «data».old offer result snapshot.new «data».new }
@@ -171,7 +169,24 @@ pub fn tick_number_in(
     advance(snapshot, program, data, offer, 1).answer
 }
 
-// A tick, always a whole one. A refused call changes no byte.
+// A tick's answer, by its number.
+fn answered(number: u8) -> Answer
+    ensures { result ≡ answered number }
+{
+    match number {
+        0..=15 => Answer::Refused(number),
+        16 => Answer::Waited,
+        17 => Answer::Entered,
+        18 => Answer::Ran,
+        19 => Answer::Sleep,
+        20 => Answer::Watchdog,
+        21 => Answer::Undefined,
+        22 => Answer::Break,
+        _ => Answer::End,
+    }
+}
+
+// A tick. A refused call changes no byte.
 pub fn tick_in(
     snapshot: &mut [u8],
     program: &[u8],
@@ -187,7 +202,7 @@ pub fn tick_in(
         snapshot[37] = last - 32;
         return Ok(Answer::Waited);
     }
-    Ok(whole(snapshot, program, data, offer))
+    Ok(answered(advance(snapshot, program, data, offer, 1).answer))
 }
 
 // A run. A refused call changes no byte.
