@@ -70,14 +70,13 @@ function arguments(text, parts,    count, depth, at, c) {
 function form(text,    parts, count, at, found) {
     count = arguments(text, parts)
     if (parts[2] == "≡") return letter(parts[1]) " ≡ " definition(substr(text, index(text, " ≡ ") + length(" ≡ ")))
-    if (parts[1] == "Gains") return parts[1] " " letter(parts[2]) " " definition(parts[3]) " " letter(parts[4])
-    if (index(text, " ≡ ") > 0) {
-        found = parts[1]
-        for (at = 2; parts[at] != "≡"; at++) found = found " " letter(parts[at])
-        return found " ≡ " definition(substr(text, index(text, " ≡ ") + length(" ≡ ")))
-    }
-    found = parts[1] " " definition(parts[2])
-    at = 3
+    found = parts[1]
+    for (at = 2; at <= count && parts[at] != "≡"; at++) found = found " " letter(parts[at])
+    if (at <= count) return found " ≡ " definition(substr(text, index(text, " ≡ ") + length(" ≡ ")))
+    found = parts[1]
+    at = 2
+    if (parts[1] == "Gains") found = found " " letter(parts[at++])
+    found = found " " definition(parts[at++])
     for (; at <= count; at++) found = found " " letter(parts[at])
     return found
 }
@@ -128,7 +127,7 @@ function gives(text,    names, value) {
     split(names, value, " ")
     contract = text
     converting = 2
-    if (index(text, value[2] " ≡ ") != 1 || form("result" substr(text, length(value[2]) + 1)) != "r ≡ D") fault("no law makes one outcome of `" text "`")
+    if (index(text, value[2] " ≡ ") != 1 || mentions(substr(text, length(value[2] " ≡ ")), value[2]) || form("result" substr(text, length(value[2]) + 1)) != "r ≡ D") fault("no law makes one outcome of `" text "`")
     print "| `" crate "` | `" name "` | `" text "` | equation |"
 }
 
