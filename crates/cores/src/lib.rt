@@ -11,6 +11,7 @@ ghost use Rattle.cores.specs.State.{
   with_sreg,
   with_chip,
   flag,
+  number_of,
   said_register,
   read_register_of,
   said_set,
@@ -42,6 +43,17 @@ pub struct Core {
 // The refusal of a register number above 31.
 #[derive(Clone, Copy, Debug, PartialEq, Eq)]
 pub struct NoRegister;
+
+// By 01's number.
+impl From<NoRegister> for u8 {
+    ghost from_gives = { λ refusal n. n ≡ number_of refusal };
+
+    fn from(refusal: NoRegister) -> u8 {
+        match refusal {
+            NoRegister => 6,
+        }
+    }
+}
 
 impl Core {
     // The Rust's `BitSREG`.

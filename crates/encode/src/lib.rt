@@ -2,7 +2,7 @@
 #![tactic(auto)]
 
 ghost use Rattle.std.specs.Prelude.{◌≡◌};
-ghost use Rattle.encode.specs.Encode.{said, encode_of};
+ghost use Rattle.encode.specs.Encode.{number_of, said, encode_of};
 
 use instruction::Instruction;
 use layout::*;
@@ -18,8 +18,20 @@ pub enum Words {
 
 #[derive(Clone, Copy, Debug, PartialEq, Eq)]
 pub enum Refusal {
-    Outside, // 33: an operand outside its field
-    NoEncoding, // 34: UNDEF and LSL, whatever their operands
+    Outside, // an operand outside its field
+    NoEncoding, // UNDEF and LSL, whatever their operands
+}
+
+// By 02's numbers.
+impl From<Refusal> for u8 {
+    ghost from_gives = { λ refusal n. n ≡ number_of refusal };
+
+    fn from(refusal: Refusal) -> u8 {
+        match refusal {
+            Refusal::Outside => 33,
+            Refusal::NoEncoding => 34,
+        }
+    }
 }
 
 // One match, an arm an instruction, in the order of the enum: its layout, and its pattern with 0 for the letters.
