@@ -14,6 +14,7 @@ BEGIN {
     rules["write_said r ≡ D"] = "writes_hex"
     rules["outcome_said r ≡ D"] = "reads_schedule"
     rules["lines_left r ≡ D"] = "yields"
+    rules["text_left r ≡ D"] = "holds_text"
     rules["Leaves D r x′"] = "leaves"
     rules["Leaves D (cored x′ r x) x′"] = "leaves_lent"
     rules["Changes D x x x x x r x′"] = "changes"
@@ -45,7 +46,7 @@ BEGIN {
     homes["said_lack"] = "Rattle.execute.specs.Needs"
     homes["said"] = "Rattle.encode.specs.Encode"
     homes["number_said"] = "Rattle.hex_line.specs.Line"
-    homes["lines_left"] = "Rattle.hex_line.specs.Left"
+    homes["lines_left"] = homes["text_left"] = homes["GivesLine"] = "Rattle.hex_line.specs.Left"
     homes["read_said"] = "Rattle.intel_hex.specs.Reading"
     homes["write_said"] = "Rattle.intel_hex.specs.Writing"
     homes["outcome_said"] = "Rattle.schedule_text.specs.Reading"
@@ -252,15 +253,16 @@ exporting && /[;{]$/ && !/::\{$/ {
 }
 /^ ?(pub )?mod [a-z0-9_]+ \{/ { fault("a module in a file, which this tool does not read") }
 /^ ?pub struct [A-Za-z0-9_]+</ && !/^pub struct (Page|Lines)<'a> \{$/ { fault("a struct that holds a reference, which this tool does not read") }
-/^impl<'a> Iterator for Lines<'a> \{$/ { # its `next` is pinned by what std's trait asks of it
+/^impl<'a> Iterator for Lines<'a> \{$/ { # its `next` is pinned by what it gives
     if (inside) finish()
     name = "Iterator for Lines"
     converting = inside = 1
     next
 }
-converting == 1 && /^ ghost next_gives = \{ YieldsFirstRef lines_left \};$/ {
+converting == 1 && /^ ghost use / { bring($0) }
+converting == 1 && /^ ghost next_gives = \{ GivesLine \};$/ {
     converting = 2
-    print "| `" crate "` | `" name "` | `YieldsFirstRef lines_left` | yields |"
+    print "| `" crate "` | `" name "` | `GivesLine` | gives_line |"
 }
 /^impl From<[A-Za-z0-9_:]+> for [A-Za-z0-9_]+ \{$/ {
     if (inside) finish()

@@ -124,6 +124,9 @@ pub no_lines : (t : List ℕ) (at : ℕ) → length t ≤ at → lines_of (drop 
 unfolding lines_of
 no_lines t at h = rw (drop_of_length-le t {i = at} h)
 
+pub no_rest : (t : List ℕ) (n : ℕ) → length t ≤ 0 → t ≡ drop n t
+no_rest t n h = drop_of_length-le t {i = 0} h ∙ sym (drop_of_length-le t {i = n} (omega (arith, h)))
+
 -- ---- a text has no more lines than characters
 first_more : (c : ℕ) (ls : List (List ℕ)) → length (on_first c ls) ≤ suc (length ls)
 first_more c [] = omega arith

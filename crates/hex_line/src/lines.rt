@@ -47,22 +47,23 @@ pub struct Lines<'a> {
 }
 
 impl<'a> Lines<'a> {
-    ghost use Rattle.hex_line.specs.Left.{lines_left};
+    ghost use Rattle.hex_line.specs.Left.{lines_left, text_left};
 
     pub fn of(text: &'a [u8]) -> Lines<'a>
-        ensures { lines_left result ≡ lines_of text.now }
+        ensures lines { lines_left result ≡ lines_of text.now }
+        ensures text { text_left result ≡ text.now }
     {
         Lines { rest: text }
     }
 }
 
 impl<'a> Iterator for Lines<'a> {
-    ghost use Rattle.std.specs.Iterator.{YieldsFirstRef, item_count};
-    ghost use Rattle.hex_line.specs.Left.{lines_left};
+    ghost use Rattle.std.specs.Iterator.{item_count};
+    ghost use Rattle.hex_line.specs.Left.{GivesLine, lines_left};
 
     type Item = &'a [u8];
 
-    ghost next_gives = { YieldsFirstRef lines_left };
+    ghost next_gives = { GivesLine };
 
     ghost remaining = { item_count lines_left };
 

@@ -2,7 +2,7 @@
 -- Assumes nothing.
 use mathlib.Core.Path.{◌≡◌, refl, sym, ap, ◌∙◌}
 use mathlib.Core.Bool.{Bool, false}
-use mathlib.Core.List.{List, []}
+use mathlib.Core.List.{List, [], ◌∷◌}
 use Prim.Native.Nat.{ℕ}
 use Rattle.cores.specs.declared.Core.{Core}
 use Rattle.cores.specs.State.{Out, Leaves, with_regs, with_pc, with_sp, with_busy, with_inhibit, with_service, with_chip}
@@ -15,7 +15,9 @@ use Rattle.tick.specs.declared.Ticked.{Ticked}
 use Rattle.run.specs.declared.Ran.{Ran}
 use Rattle.run.specs.declared.Ended.{Ended}
 use Rattle.page.specs.Page.{Page}
-use Rattle.std.specs.Prelude.{Result, Ok, Err, ⊤, ◌==◌}
+use Rattle.std.specs.Prelude.{Option, Some, None, option_map, Result, Ok, Err, ⊤, ◌==◌}
+use Rattle.std.specs.Borrow.{Bor}
+use Rattle.std.specs.Iterator.{YieldsFirstRef}
 use Rattle.basis.specs.Pick.{pick}
 use Rattle.cores.specs.declared.NoRegister.{NoRegister}
 use Rattle.cores.specs.State.{RegisterRead, RegisterSet, said_register, said_set}
@@ -30,7 +32,9 @@ use Rattle.encode.specs.declared.Refusal.TheVariants as refusal
 use Rattle.encode.specs.Encode.{Encoded, said}
 use Rattle.hex_line.specs.declared.faults.LineFault.{LineFault}
 use Rattle.hex_line.specs.declared.faults.LineFault.TheVariants as fault
+use Rattle.hex_line.specs.declared.lines.Lines.{Lines}
 use Rattle.hex_line.specs.Line.{number_said}
+use Rattle.hex_line.specs.Left.{text_left, lines_left, GivesLine}
 use Rattle.intel_hex.specs.declared.errors.ReadError.{ReadError}
 use Rattle.intel_hex.specs.declared.errors.ReadError.TheVariants as unread
 use Rattle.intel_hex.specs.declared.errors.WriteError.{WriteError}
@@ -182,6 +186,18 @@ reads_schedule = once outcome_said told back
     back (Ok n) = refl
     back (Err e) = named e.fault e.line e.records
 
+-- what an iterator hands out is the first of the lines that were left
+abbrev first_of : List (List ℕ) → Option (List ℕ)
+first_of [] = None
+first_of (l ∷ ls) = Some l
+
+handed : (s : Lines) (r : Option (Bor (List ℕ))) (t : Lines) → YieldsFirstRef lines_left s r t → option_map (λ b. b.now) r ≡ first_of (lines_left s)
+handed s None t e = sym (ap first_of e.0)
+handed s (Some b) t e = sym (ap first_of e)
+
+gives_line : (s : Lines) (r r' : Option (Bor (List ℕ))) (t t' : Lines) → GivesLine s r t → GivesLine s r' t' → (option_map (λ b. b.now) r ≡ option_map (λ b. b.now) r') × (text_left t ≡ text_left t')
+gives_line s r r' t t' e f = (equation (handed s r t e.lines) (handed s r' t' f.lines), equation e.text f.text)
+
 -- a core has its parts
 step : {pc pc' sp sp' s s' b b' : ℕ} {i i' v v' : Bool} → pc ≡ pc' → sp ≡ sp' → s ≡ s' → b ≡ b' → i ≡ i' → v ≡ v'
     → Path Step (record { pc = pc; sp = sp; sreg = s; busy = b; inhibit = i; in_service = v }) (record { pc = pc'; sp = sp'; sreg = s'; busy = b'; inhibit = i'; in_service = v' })
@@ -227,6 +243,8 @@ one_outcome =
       writes_hex = writes_hex;
       reads_schedule = reads_schedule;
       yields = λ d x y e f. equation e f;
+      holds_text = λ d x y e f. equation e f;
+      gives_line = gives_line;
       ticks_in = λ o x y e f. three (equation e.number f.number) (equation e.snapshot f.snapshot) (equation e.bytes f.bytes);
       runs_in = λ o x y e f. four (equation e.answer f.answer) (equation e.count f.count) (equation e.snapshot f.snapshot) (equation e.bytes f.bytes);
       ticks_left = λ o n x y e f. two (equation e.snapshot f.snapshot) (equation e.bytes f.bytes);

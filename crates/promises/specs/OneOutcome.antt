@@ -1,5 +1,6 @@
 -- 01: "Prove that two outcomes meeting one contract are the same." Every public function's contract is made of these; docs/CONTRACTS.md says which is whose.
-use Rattle.std.specs.Prelude.{◌≡◌, Bool, List, ℕ, Result, ⊤}
+use Rattle.std.specs.Prelude.{◌≡◌, Bool, List, ℕ, Option, Result, ⊤, option_map}
+use Rattle.std.specs.Borrow.{Bor}
 use Rattle.cores.specs.declared.Core.{Core}
 use Rattle.cores.specs.declared.NoRegister.{NoRegister}
 use Rattle.cores.specs.State.{Out, Leaves, RegisterRead, RegisterSet, said_register, said_set}
@@ -25,7 +26,7 @@ use Rattle.encode.specs.Encode.{Encoded, said}
 use Rattle.hex_line.specs.declared.faults.LineFault.{LineFault}
 use Rattle.hex_line.specs.declared.lines.Lines.{Lines}
 use Rattle.hex_line.specs.Line.{number_said}
-use Rattle.hex_line.specs.Left.{lines_left}
+use Rattle.hex_line.specs.Left.{text_left, lines_left, GivesLine}
 use Rattle.intel_hex.specs.declared.errors.ReadError.{ReadError}
 use Rattle.intel_hex.specs.declared.errors.WriteError.{WriteError}
 use Rattle.intel_hex.specs.Reading.{Read, read_said}
@@ -56,6 +57,10 @@ pub record OneOutcome : Type 1 where
   pub reads_schedule : (d : Outcome) → One (λ (x : Result ℕ Refused). outcome_said x ≡ d)
   -- an iterator over the lines of a text, by those that are left
   pub yields : (d : List (List ℕ)) (x y : Lines) → lines_left x ≡ d → lines_left y ≡ d → lines_left x ≡ lines_left y
+  -- the same iterator, by the text that is left
+  pub holds_text : (d : List ℕ) (x y : Lines) → text_left x ≡ d → text_left y ≡ d → text_left x ≡ text_left y
+  -- a call of its `next`, by what is handed out, as it reads, and the text that is left
+  pub gives_line : (s : Lines) (r r' : Option (Bor (List ℕ))) (t t' : Lines) → GivesLine s r t → GivesLine s r' t' → (option_map (λ b. b.now) r ≡ option_map (λ b. b.now) r') × (text_left t ≡ text_left t')
   -- a core, and the bytes of data
   pub leaves : (o : Out) → One (λ (x : Core × List ℕ). Leaves o x.0 x.1)
   -- lent registers, the rest of a core, and the bytes of data
