@@ -128,14 +128,14 @@ function gives(text,    names, value) {
     split(names, value, " ")
     contract = text
     converting = 2
-    if (index(text, value[2] " ≡ ") != 1 || mentions(substr(text, length(value[2] " ≡ ")), value[2]) || form("result" substr(text, length(value[2]) + 1)) != "r ≡ D") fault("no law makes one outcome of `" text "`")
+    if (value[2] == "_" || index(text, value[2] " ≡ ") != 1 || mentions(substr(text, length(value[2] " ≡ ")), value[2]) || form("result" substr(text, length(value[2]) + 1)) != "r ≡ D") fault("no law makes one outcome of `" text "`")
     print "| `" crate "` | `" name "` | `" text "` | equation |"
 }
 
 function pin(text, shape) {
     gsub(/[()]/, " ", text)
     pinned = pinned " " text " "
-    if (shape ~ /(^|[ (])r[ )]/ && shape !~ /said_tick|said_run/) told = 1 # other results have those numbers too
+    if (shape ~ /(^|[ (])r[ )]/ && shape !~ /said_tick|said_run|lines_left/) told = 1 # other results have those numbers, and those lines, too
     if (index(", " laws ",", ", " rules[shape] ",") == 0) laws = laws (laws == "" ? "" : ", ") rules[shape]
 }
 
@@ -259,7 +259,9 @@ exporting && /[;{]$/ && !/::\{$/ {
     converting = inside = 1
     next
 }
-converting == 1 && /^ ghost use / { bring($0) }
+converting && /^ ghost use / { brought = ""; bringing = 1 }
+converting && bringing { brought = brought $0 }
+converting && bringing && /;$/ { bring(brought); bringing = 0 }
 converting == 1 && /^ ghost next_gives = \{ GivesLine \};$/ {
     converting = 2
     print "| `" crate "` | `" name "` | `GivesLine` | gives_line |"
