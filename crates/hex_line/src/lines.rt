@@ -50,8 +50,8 @@ impl<'a> Lines<'a> {
     ghost use Rattle.hex_line.specs.Left.{lines_left, text_left};
 
     pub fn of(text: &'a [u8]) -> Lines<'a>
-        ensures lines { lines_left result ≡ lines_of text.now }
         ensures text { text_left result ≡ text.now }
+        ensures lines { lines_left result ≡ lines_of text.now }
     {
         Lines { rest: text }
     }

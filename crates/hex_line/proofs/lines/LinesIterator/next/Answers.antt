@@ -1,7 +1,8 @@
 -- The first line, and the others behind it.
-use Rattle.std.proofs.Common.{◌≡◌, ◌-◌, take, drop, length, length-drop, arith, rules, sym, ap, ◌∙◌}
+use Rattle.std.proofs.Common.{◌≡◌, ◌-◌, List, ◌∷◌, ℕ, take, drop, length, length-drop, arith, rules, sym, ap, ◌∙◌}
 use lib.Seq.{take_all, length-take-le}
 use Rattle.hex_line.specs.declared.Line.{Line}
+use Rattle.hex_line.specs.Line.{lines_of}
 use Rattle.hex_line.proofs.Found.{Found, found, first_line, no_lines, no_rest}
 use Rattle.hex_line.proofs.lines.LinesIterator.next.Goals as goal
 use Rattle.hex_line.proofs.lines.LinesIterator.next.Goals.{After-line_at-stop}
@@ -33,7 +34,7 @@ returns-clause-steps c =
     let rest : take (length t - next) (drop next t) ≡ drop next t = take_all (length t - next) (drop next t) (omega (arith, length-drop next t)) in
     record {
       text = rest ∙ ap (λ (l : Line). drop l.next t) c.line_at-stop.ensures;
-      lines = rw rest (first_line t c.line_at-stop.result (search rules) c.line_at-stop.ensures);
+      lines = first_line t c.line_at-stop.result (search rules) c.line_at-stop.ensures ∙ ap (λ (z : List ℕ). take c.line_at-stop.result.stop t ∷ lines_of z) (sym rest);
     }
 
 pub returns-clause-goes : goal.returns-clause-goes
